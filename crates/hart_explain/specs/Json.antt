@@ -12,32 +12,32 @@ use Rattle.hart_explain.specs.declared.reading.Problem.{Problem}
 use Rattle.hart_explain.specs.declared.reading.Problem.TheVariants.{NoReply, NotRead, Refused, TooFew, UnknownCommand}
 use Rattle.hart_explain.specs.Reading.{Reading}
 use Rattle.hart_explain.specs.Values.{Value, Raw, Number, Unit, Text, Day, NotSet, NoDate, Variables, held_value}
-use Rattle.hart_explain.specs.Codes.{code_name}
+use Rattle.hart_commands.specs.Codes.{code_name}
 
--- A member of an object has a name and a value.
+-- A member of an object: its name and its value.
 pub record Named : Type 0 where
   pub name : List ℕ
   pub value : Data
 
--- A member whose name is a text, so that a list of members has one line for each.
+-- A member with this name and this value. This short form gives each member of a list its own line here.
 abbrev pub named : String → Data → Named
 named name value = record { name = codes name; value = value }
 
--- The same members in the words of the crate `serde_json`.
+-- Members in the form of the crate `serde_json`.
 abbrev pub members_of : List Named → Members
 members_of [] = no_members
 members_of (first ∷ others) = member first.name first.value (members_of others)
 
--- An object has these members, in this order.
+-- The object with these members, in this order.
 abbrev pub object_of : List Named → Data
 object_of members = object (members_of members)
 
--- The same values in the words of the crate `serde_json`.
+-- Values in the form of the crate `serde_json`.
 abbrev pub items_of : List Data → Items
 items_of [] = no_items
 items_of (first ∷ others) = item first (items_of others)
 
--- A list has these values, in this order.
+-- The list of these values, in this order.
 abbrev pub list_of : List Data → Data
 list_of values = array (items_of values)
 
@@ -58,7 +58,7 @@ abbrev pub name_or_null : Option (List ℕ) → Data
 name_or_null None = null
 name_or_null (Some name) = string name
 
--- A device variable of eight bytes has code, classification and unit as numbers, and value and status in hex.
+-- A device variable of eight bytes as an object: code, classification and unit as numbers, value and status in hex.
 abbrev pub variable_data : List ℕ → Data
 variable_data bytes = object_of (
     named "code" (count (slice_index bytes 0))
@@ -79,7 +79,7 @@ value_data NotSet = null
 value_data (NoDate bytes) = hex bytes
 value_data (Variables variables) = list_of (map variable_data variables)
 
--- In the name of a member, a `_` stands for each space.
+-- The byte for a character of a name in JSON: `_` for a space, and otherwise the character itself.
 abbrev pub underscored : ℕ → ℕ
 underscored code = if code == 32 then 95 else code
 
@@ -87,11 +87,11 @@ underscored code = if code == 32 then 95 else code
 abbrev pub field_member : Field → Named
 field_member field = record { name = map underscored field.name; value = value_data (held_value field.kind field.bytes) }
 
--- What is wrong has a reason, and details.
+-- A problem as an object: its reason, and details.
 abbrev pub problem_of : String → List Named → Data
 problem_of reason details = object_of (named "reason" (word reason) ∷ details)
 
--- A problem with the data of a command. An unknown command is no problem of the data, so it is null.
+-- A problem with the data of a command as an object. An unknown command is no problem of the data, so it gives null.
 abbrev pub problem_data : ℕ → Problem → Data
 problem_data command UnknownCommand = null
 problem_data command (TooFew needed) = problem_of "too_few_data" (named "needed" (count needed) ∷ [])
@@ -109,14 +109,14 @@ reading_members command bytes reading =
     ∷ named "problem" (option_map_or (problem_data command) reading.problem null)
     ∷ []
 
--- The text of a member is its name and its value, with a colon between them.
+-- The text of a member: its name and its value, with a colon between them.
 abbrev pub member_words : Named → List ℕ
 member_words named = quoted named.name ++ 58 ∷ compact_text named.value
 
--- A further member of an object has a comma before it.
+-- The text of a member that is not the first of its object: a comma, and then the member.
 unfoldable pub further_member : Named → List ℕ
 further_member named = 44 ∷ member_words named
 
--- The text of further members of an object.
+-- The text of all members after the first.
 abbrev pub further_members : List Named → List ℕ
 further_members members = flat_map further_member members

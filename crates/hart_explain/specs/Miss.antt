@@ -1,5 +1,4 @@
--- A place at which no message stands, though one seems to start there, in words and as members of an object of JSON (implementation
--- choice).
+-- A place where a message seems to start but no message stands, in words and as members of an object of JSON (implementation choice).
 use Rattle.std.specs.Prelude.{◌==◌, if◌then◌else◌, ◌++◌, [], ◌∷◌, ℕ, List, Option, None, Some, codes, decimal}
 use Rattle.serde_json.specs.Data.{Data, null}
 use Rattle.hart_frame.specs.declared.heard.miss.Miss.{Miss}
@@ -33,16 +32,16 @@ miss_words (BadCheck place byte fits) =
     ++ codes " would fit"
 miss_words OnePreamble = codes "only one intact preamble byte stands directly before it"
 
--- The line of a miss has the place where a message seems to start, in decimal, the words of the miss, and a line feed.
+-- The line of a miss: in decimal the place where a message seems to start, and then the words of the miss.
 abbrev pub miss_line : ℕ → Miss → List ℕ
 miss_line place miss = decimal place ++ codes ": no message: " ++ miss_words miss ++ 10 ∷ []
 
--- The header that was heard at a missed place has a line that says what the message seems to be.
+-- The line that says which message seems to begin at the place of a miss, if its header was heard.
 abbrev pub seems_line : Option HeaderParts → List ℕ
 seems_line None = []
 seems_line (Some header) = said_line (codes "seems") (header_words header)
 
--- A miss has a reason, and details. Bytes and fault bits are in hex, places and counts are numbers.
+-- The members of a miss: its reason, and details. Bytes and fault bits are in hex, places and counts are numbers.
 abbrev pub reason_members : Miss → List Named
 reason_members (Faulty place faults) =
     named "reason" (word "faulty") ∷ named "at" (count place) ∷ named "faults" (hex (faults ∷ [])) ∷ []
@@ -56,12 +55,13 @@ reason_members (BadCheck place byte fits) =
     ∷ named "byte" (hex (byte ∷ [])) ∷ named "fits" (hex (fits ∷ [])) ∷ []
 reason_members OnePreamble = named "reason" (word "one_preamble") ∷ []
 
--- What a missed message seems to be is the header that was heard at its place, or null.
+-- Which message seems to begin at the place of a miss: the header that was heard there, or null.
 abbrev pub seems_value : Option HeaderParts → Data
 seems_value None = null
 seems_value (Some header) = header_value header
 
--- A miss has the place where a message seems to start, its reason, and what the message seems to be.
+-- The members of a miss: the place where a message seems to begin, the reason, and which message seems to begin there. The place is the
+-- value of `start`, as in a message, and also of `place`, its only name in earlier versions.
 abbrev pub miss_members : ℕ → Miss → Option HeaderParts → List Named
 miss_members place miss header =
-    named "place" (count place) ∷ reason_members miss ++ named "seems" (seems_value header) ∷ []
+    named "start" (count place) ∷ named "place" (count place) ∷ reason_members miss ++ named "seems" (seems_value header) ∷ []

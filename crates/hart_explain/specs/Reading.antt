@@ -12,35 +12,36 @@ use Rattle.hart_explain.specs.declared.reading.Problem.{Problem}
 use Rattle.hart_explain.specs.declared.reading.Problem.TheVariants.{NoReply, NotRead, Refused, TooFew, UnknownCommand}
 use Rattle.hart_explain.specs.declared.reading.Reading.{Reading as ReadingInCode}
 
--- A reading of data has the fields that are found in them, the bytes that are ignored, and what is wrong, if anything is.
+-- A reading of data: the fields that are found in them, the bytes that are ignored, and what is wrong, if anything is.
 pub record Reading : Type 0 where
   pub fields : List Field
   pub ignored : List ℕ
   pub problem : Option Problem
 
--- No field is found, and no byte is ignored.
+-- The reading that finds no field and ignores no byte.
 abbrev pub nothing_found : Option Problem → Reading
 nothing_found problem = record { fields = []; ignored = []; problem = problem }
 
--- The first `count` bytes are taken: the fields in them are found, and the bytes after them are ignored.
+-- The reading that finds the fields in the first `count` bytes, and ignores the bytes after them.
 abbrev pub taken : List Row → ℕ → List ℕ → Reading
 taken rows count bytes = record { fields = fields_of rows (take count bytes); ignored = drop count bytes; problem = None }
 
--- The fields in data that are refused with a code are found. The bytes after them are ignored.
+-- The reading of data that are refused with a code. It finds the fields in the data, and ignores the bytes after them.
 abbrev pub refused : List Row → ℕ → List ℕ → Reading
 refused rows code bytes =
     let fields = fields_of rows bytes in
     record { fields = fields; ignored = drop (length (bytes_of fields)) bytes; problem = Some (Refused code) }
 
--- A device refuses the data of a request with a code. Code 64 means an unknown command, and code 5 too few data. In data that are
--- refused with another code the fields are found.
+-- The reading of data that a device refuses. Code 64 means an unknown command, and code 5 too few data. With any other code, the fields in
+-- the data are found.
 abbrev pub refused_request : (command code : ℕ) → List ℕ → Reading
 refused_request command code bytes =
     if code == 64 then nothing_found (Some UnknownCommand)
     else if code == 5 then nothing_found (Some (TooFew (needed_data command)))
     else refused (request_rows command) code bytes
 
--- Data that are read as a request are taken up to the length of that request. Other data are refused.
+-- The reading of request data. If the data are a request, its fields are found, and the bytes after that request are ignored. Otherwise the
+-- data are refused with a code.
 abbrev pub asked : ℕ → List ℕ → RequestOrCode → Reading
 asked command bytes (Ok request) = taken (request_rows command) (length (request_data request)) bytes
 asked command bytes (Err code) = refused_request command code bytes
@@ -49,19 +50,20 @@ asked command bytes (Err code) = refused_request command code bytes
 unfoldable pub reading_of_request : ℕ → List ℕ → Reading
 reading_of_request command bytes = asked command bytes (request_reading command bytes)
 
--- Data after a response code other than 0 are not read, since the code may be a warning with data.
+-- The reading of data after a response code other than 0. A reply with a warning may have such data; they are not read.
 abbrev pub not_read : ℕ → List ℕ → Reading
 not_read code [] = nothing_found None
 not_read code (byte ∷ bytes) = nothing_found (Some (NotRead code))
 
--- Data that are read as a reply with code 0 are taken up to the length of the reply's content. Data that are no reply are a problem.
+-- The reading of the data of a reply. A payload that is not read as a reply is a problem. With code 0 the fields of the reply's content are
+-- found, and the bytes after the content are ignored. With another code the data are not read.
 abbrev pub replied : ℕ → List ℕ → Option Reply → Reading
 replied command bytes None = nothing_found (Some (if is_some (command_name command) then NoReply else UnknownCommand))
 replied command bytes (Some reply) =
     if reply.code == 0 then taken (reply_rows command) (length (content_bytes reply.content)) bytes
     else not_read reply.code bytes
 
--- What the payload of a reply means: two status bytes, and then the data. After communication faults the data mean nothing, and are
+-- What the payload of a reply means: two status bytes, and then the data. After communication faults, the data mean nothing and are
 -- ignored.
 unfoldable pub reading_of_reply : ℕ → List ℕ → Reading
 reading_of_reply command (first ∷ second ∷ bytes) =
@@ -69,10 +71,10 @@ reading_of_reply command (first ∷ second ∷ bytes) =
     else replied command bytes (reply_reading command (first ∷ second ∷ bytes))
 reading_of_reply command _ = nothing_found None
 
--- Turns a field of the code into a `Field` of the definitions.
+-- A field in the code, as a `Field` of the definitions.
 abbrev pub seen_field : FieldInCode → Field
 seen_field field = record { name = field.name.now; kind = field.kind; bytes = field.bytes.now }
 
--- Turns a reading of the code into a `Reading` of these definitions.
+-- A reading in the code, as a `Reading` of these definitions.
 abbrev pub seen_reading : ReadingInCode → Reading
 seen_reading reading = record { fields = reading.fields; ignored = reading.ignored.now; problem = reading.problem }

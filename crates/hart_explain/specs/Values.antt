@@ -13,7 +13,7 @@ use Rattle.hart_explain.specs.declared.value.Value.{Value as ValueInCode}
 use Rattle.hart_explain.specs.declared.value.Value.TheVariants as given
 
 -- What a field holds: bytes; a number; the code of a unit; a text in UTF-8; a day of the calendar, as its text; a date that is not set;
--- bytes of a date that are no date; or device variables of eight bytes each.
+-- bytes that are no date; or device variables of eight bytes each.
 pub data Value : Type 0 where
   Raw : List ℕ → Value
   Number : ℕ → Value
@@ -24,29 +24,29 @@ pub data Value : Type 0 where
   NoDate : List ℕ → Value
   Variables : List (List ℕ) → Value
 
--- Bytes make one number, with the most significant byte first.
+-- Bytes as one number, with the most significant byte first.
 abbrev pub number_in : List ℕ → ℕ
 number_in bytes = fold (λ number byte. 256 * number + byte) 0 bytes
 
--- Six bits stand for the character whose code ends in these bits and lies between hex 20 and 5F.
+-- The character that six bits stand for: its code ends in these bits, and lies between hex 20 and 5F.
 abbrev pub character : ℕ → ℕ
 character bits = if nat_lt bits 32 then bits + 64 else bits
 
--- Three bytes hold four characters of six bits each, the first one in the highest bits.
+-- The four characters in three bytes: six bits each, the first character in the highest bits.
 abbrev pub characters_of : (a b c : ℕ) → List ℕ
 characters_of a b c =
     character (a / 4) ∷ character (16 * (a % 4) + b / 16) ∷ character (4 * (b % 16) + c / 64) ∷ character (c % 64) ∷ []
 
--- The text of packed bytes has the four characters of every three bytes.
+-- The text of packed bytes: four characters for every three bytes.
 abbrev pub unpacked : List ℕ → List ℕ
 unpacked (a ∷ b ∷ c ∷ rest) = characters_of a b c ++ unpacked rest
 unpacked _ = []
 
--- A character of ISO Latin-1 can be printed if it is no control character.
+-- Whether a character of ISO Latin-1 can be printed: it is no control character.
 abbrev pub is_printable : ℕ → Bool
 is_printable code = (nat_le 32 code && nat_le code 126) || nat_le 160 code
 
--- A text in ISO Latin-1, if all its characters can be printed.
+-- The text in ISO Latin-1, if all its characters can be printed. Otherwise its bytes.
 unfoldable pub held_latin : List ℕ → Value
 held_latin bytes = if list_all is_printable bytes then Text (encode_utf8_all bytes) else Raw bytes
 
@@ -54,11 +54,11 @@ held_latin bytes = if list_all is_printable bytes then Text (encode_utf8_all byt
 abbrev pub two_digits : ℕ → List ℕ
 two_digits number = decimal (number / 10) ++ decimal (number % 10)
 
--- A day of the calendar is written as its year, month and day, with hyphens between them.
+-- The text of a day: its year, month and day, with hyphens between them.
 abbrev pub day_words : (day month year : ℕ) → List ℕ
 day_words day month year = decimal (1900 + year) ++ codes "-" ++ two_digits month ++ codes "-" ++ two_digits day
 
--- Three zero bytes are a date that is not set. Any other bytes are a day of the calendar, or no date.
+-- The date in three bytes. Three zeros are a date that is not set. Other bytes are a day of the calendar, or no date.
 abbrev pub held_date : List ℕ → Value
 held_date (day ∷ month ∷ year ∷ []) =
     if (day == 0) && (month == 0) && (year == 0) then NotSet
@@ -77,7 +77,7 @@ held_value kinds.LatinText bytes = held_latin bytes
 held_value kinds.Date bytes = held_date bytes
 held_value kinds.Variables bytes = Variables (first_chunks 8 (length bytes / 8) bytes)
 
--- Turns a value of the code into a `Value` of these definitions.
+-- A value in the code, as a `Value` of these definitions.
 abbrev pub seen_value : ValueInCode → Value
 seen_value (given.Raw bytes) = Raw bytes.now
 seen_value (given.Number number) = Number number
@@ -90,8 +90,8 @@ seen_value (given.Variables variables) = Variables variables.now
 
 -- Only private calls use the definitions from here on.
 
--- This number of bytes suits a kind: 1 or 2 suit a number, 1 the code of a unit, 6, 12 or 24 a packed text, at most 32 a text in
--- ISO Latin-1, and 3 a date. Any number suits every other kind.
+-- Whether a field of a kind can have this number of bytes. A number has 1 or 2 bytes, the code of a unit 1, a packed text 6, 12 or 24, a
+-- text in ISO Latin-1 at most 32, and a date 3. Any other kind can have any number.
 abbrev pub suits : FieldKind → ℕ → Bool
 suits kinds.Number size = (size == 1) || (size == 2)
 suits kinds.UnitCode size = size == 1
@@ -100,7 +100,7 @@ suits kinds.LatinText size = nat_le size 32
 suits kinds.Date size = size == 3
 suits _ size = true
 
--- A size suits a kind if every number of bytes that its size allows suits the kind.
+-- Whether a field of a kind can have every number of bytes that a size allows.
 abbrev pub suits_size : FieldKind → FieldSize → Bool
 suits_size kind (Exactly size) = suits kind size
 suits_size kinds.Bytes (AllBut after) = true
@@ -108,6 +108,6 @@ suits_size kinds.Float (AllBut after) = true
 suits_size kinds.Variables (AllBut after) = true
 suits_size _ (AllBut after) = false
 
--- The sizes of rows suit their kinds.
+-- Whether the kind of each row can have every number of bytes that its size allows.
 abbrev pub sizes_suit : List Row → Bool
 sizes_suit rows = list_all (λ row. suits_size row.kind row.size) rows

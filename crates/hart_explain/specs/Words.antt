@@ -8,20 +8,20 @@ use Rattle.hart_commands.specs.Fields.{Field}
 use Rattle.hart_commands.specs.Units.{unit_name}
 use Rattle.hart_explain.specs.declared.reading.Problem.{Problem}
 use Rattle.hart_explain.specs.declared.reading.Problem.TheVariants.{NoReply, NotRead, Refused, TooFew, UnknownCommand}
-use Rattle.hart_explain.specs.Codes.{code_name}
+use Rattle.hart_commands.specs.Codes.{code_name}
 use Rattle.hart_explain.specs.Reading.{Reading}
 use Rattle.hart_explain.specs.Values.{Value, Raw, Number, Unit, Text, Day, NotSet, NoDate, Variables, held_value}
 
--- Bytes in hex are `0x` and two upper-case digits for each byte.
+-- Bytes in hex: `0x` and two upper-case digits for each byte.
 unfoldable pub hex_value : List ℕ → List ℕ
 hex_value bytes = codes "0x" ++ encode_upper bytes
 
--- A name stands in parentheses after a space. Without a name, nothing is written.
+-- A space and a name in parentheses. Without a name, nothing is written.
 abbrev pub in_parentheses : Option (List ℕ) → List ℕ
 in_parentheses None = []
 in_parentheses (Some name) = codes " (" ++ name ++ codes ")"
 
--- The words of a unit are its code and, if it has one, its name.
+-- The words of a unit: its code and, if it has one, its name.
 abbrev pub unit_words : ℕ → List ℕ
 unit_words code = decimal code ++ in_parentheses (unit_name code)
 
@@ -45,25 +45,25 @@ value_words NotSet = codes "not set"
 value_words (NoDate bytes) = hex_value bytes ++ codes ", no date"
 value_words (Variables variables) = join_by variable_words (codes "; ") variables
 
--- A line has four spaces, a name, a colon, a space, a value and a line feed.
+-- A line of a paragraph: four spaces, a name, a colon, a space, a value and a line feed.
 abbrev pub said_line : List ℕ → List ℕ → List ℕ
 said_line name value = codes "    " ++ name ++ codes ": " ++ value ++ 10 ∷ []
 
--- Bytes have a line with their name, if there are any.
+-- The line of some bytes, with their name. If there are no bytes, there is no line.
 abbrev pub bytes_line : List ℕ → List ℕ → List ℕ
 bytes_line name [] = []
 bytes_line name (byte ∷ bytes) = said_line name (hex_value (byte ∷ bytes))
 
--- The line of a field has its name and the words of its value.
+-- The line of a field: its name, and the words of its value.
 unfoldable pub field_line : Field → List ℕ
 field_line field = said_line field.name (value_words (held_value field.kind field.bytes))
 
--- The words of bytes are the bytes in hex, or `none` if there are none.
+-- Bytes in hex, or `none` if there are no bytes.
 abbrev pub bytes_or_none : List ℕ → List ℕ
 bytes_or_none [] = codes "none"
 bytes_or_none (byte ∷ bytes) = hex_value (byte ∷ bytes)
 
--- A name follows a comma and a space. Without a name, nothing is written.
+-- A comma, a space and a name. Without a name, nothing is written.
 abbrev pub name_words : Option (List ℕ) → List ℕ
 name_words None = []
 name_words (Some name) = codes ", " ++ name
@@ -78,7 +78,7 @@ problem_lines command bytes NoReply =
     said_line (codes "data that are no reply to Command " ++ decimal command ++ codes " of Revision 7") (bytes_or_none bytes)
 problem_lines command bytes (NotRead code) = bytes_line (codes "not read (code " ++ decimal code ++ codes ")") bytes
 
--- The lines of a reading of the data of a command: a line for each field, what is wrong, if anything is, and what is ignored.
+-- The lines of a reading of the data of a command: one for each field, then what is wrong, if anything is, and then what is ignored.
 unfoldable pub reading_lines : ℕ → List ℕ → Reading → List ℕ
 reading_lines command bytes reading =
     flat_map field_line reading.fields ++ option_map_or (problem_lines command bytes) reading.problem []

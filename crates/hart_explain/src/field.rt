@@ -8,11 +8,11 @@ use hart_commands::FieldKind;
 /// A field of data.
 #[derive(Drop)]
 pub struct Field<'a> {
-    /// Its name.
+    /// The name of the field.
     pub name: &'static str,
-    /// Its kind.
+    /// The kind of the field.
     pub kind: FieldKind,
-    /// Its bytes.
+    /// The bytes of the field.
     pub bytes: &'a [u8],
     ghost suits: { suits kind (length bytes.now) ≡ true },
 }

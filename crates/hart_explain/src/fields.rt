@@ -8,7 +8,7 @@ use crate::field::Field;
 use hart_commands::FieldRow;
 use std::marker::Model;
 
-/// The fields that are left in data.
+/// The fields of some data, without those that `next` has returned already.
 #[derive(Drop)]
 pub struct Fields<'a> {
     rows: &'static [FieldRow],
@@ -36,7 +36,7 @@ impl<'a> Fields<'a> {
         Fields { rows, rest: bytes }
     }
 
-    /// Returns the next field.
+    /// Returns the next field, or `None` if there is none.
     #[inline(always)]
     pub fn next(&mut self) -> Option<Field<'a>>
         ensures { MatchOption result (self.old ≡ []) (λ field. self.old ≡ seen_field field ∷ self.new) }
@@ -54,6 +54,7 @@ impl<'a> Fields<'a> {
 }
 
 /// Returns the bytes after the fields that these rows find.
+#[tactic(auto, using(std::proofs::lemmas::Grind::common_steps, crate::proofs::lemmas::Rows::taken_off))]
 pub(crate) fn after_fields<'a>(rows: &[FieldRow], bytes: &'a [u8]) -> &'a [u8]
     ensures { result.now ≡ drop (length (bytes_of (fields_of (map seen rows.now) bytes.now))) bytes.now }
 {

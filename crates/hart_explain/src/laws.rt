@@ -18,7 +18,7 @@ pub fn hex_digits_are_not_escaped()
     ensures { (bytes : List ℕ) → IsBytes bytes → escape (encode_upper bytes) ≡ encode_upper bytes }
 {}
 
-/// The text of an object is a brace, its first member, the further ones, and a brace.
+/// The text of an object is a brace, its first member, the further members with a comma before each, and a brace.
 #[tactic(auto, using(crate::proofs::lemmas::Laws::objects_are_their_members))]
 pub fn objects_are_their_members()
     ensures { (first : Named) (others : List Named)

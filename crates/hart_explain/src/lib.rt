@@ -1,9 +1,9 @@
 //! What HART messages mean, and how that is printed: in words and in JSON.
 //!
-//! [`read_request`] and [`read_reply`] decide once what data mean. They return a [`Reading`]: the fields that are found, the bytes that
-//! are ignored, and what is wrong. [`Field::value`] reads the bytes of a field by its kind. [`words::push_sighting`] and
-//! [`objects::push_line`] print a whole message, or a place where one only seems to start. They print into a [`Text`] in memory, so they
-//! know no reader and no writer, and never fail.
+//! [`read_request`] and [`read_reply`] find out what data mean, for words and JSON alike. They return a [`Reading`]: the fields that are
+//! found, the bytes that are ignored, and what is wrong. [`Field::value`] reads the bytes of a field by its kind. [`words::push_sighting`]
+//! and [`objects::push_line`] print a whole message, or a place where a message only seems to start. They print into a [`Text`] in memory,
+//! so they need no writer, and never fail.
 //!
 //! ```rust
 //! let data = [0x01, 0x23, 0x45];
@@ -18,7 +18,8 @@
 //! - `reading`: what data mean.
 //! - `field`, `fields`: one field, and the fields of data one after another.
 //! - `value`: what a field holds.
-//! - `codes`, `status`: the names of response codes, and of the bits of the two status bytes.
+//! - `status`: the names of the bits that are set in a status byte.
+//! - `before`: what is known of a message from earlier messages.
 //! - `words`, `objects`: the two printers.
 //! - `text`: texts in memory.
 //! - `pairs`, `hex_text`: bytes as hex text.
@@ -27,7 +28,7 @@
 //! No call of this crate allocates.
 #![tactic(auto)]
 
-mod codes;
+mod before;
 mod field;
 mod fields;
 pub mod hex_text;
@@ -40,7 +41,7 @@ pub mod text;
 mod value;
 pub mod words;
 
-pub use codes::code_name;
+pub use before::Before;
 pub use field::Field;
 pub use fields::Fields;
 pub use pairs::Pairs;

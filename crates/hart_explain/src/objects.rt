@@ -16,21 +16,21 @@ ghost use Rattle.hart_explain.specs.Text.{extended};
 ghost use Rattle.hart_explain.specs.Reading.{seen_field, seen_reading};
 ghost use Rattle.hart_explain.specs.Values.{seen_value};
 
-use crate::codes::code_name;
 use crate::field::Field;
 use crate::fields::Fields;
 use crate::pairs::Pairs;
 use crate::reading::{Problem, Reading};
 use crate::text::{Text, push_byte, push_bytes, push_hex, push_number, push_text};
 use crate::value::Value;
+use hart_commands::code_name;
 
 mod header;
 mod sighting;
 mod status;
 
-pub use sighting::{Before, push_line};
+pub use sighting::push_line;
 
-/// Adds the members of a reading of the data of a command. Each has a comma before it.
+/// Adds the members of a reading of the data of a command, with a comma before each.
 pub fn push_reading(text: &mut Text, pairs: &Pairs, command: u8, bytes: &[u8], reading: Reading<'_>)
     ensures { text.new ≡ extended text.old (further_members (reading_members command bytes.now (seen_reading reading.entry))) }
 {
@@ -44,7 +44,7 @@ pub fn push_reading(text: &mut Text, pairs: &Pairs, command: u8, bytes: &[u8], r
     push_problem(text, command, reading.problem);
 }
 
-/// Adds what is wrong with the data of a command as an object, or null.
+/// Adds what is wrong with the data of a command as an object, or null if nothing is wrong.
 #[tactic(auto, using(crate::proofs::lemmas::Extended::extending), unfolding(json::specs::Print::escape_byte))]
 fn push_problem(text: &mut Text, command: u8, problem: Option<Problem>)
     ensures { text.new ≡ extended text.old (compact_text (option_map_or (problem_data command) problem null)) }
@@ -55,7 +55,7 @@ fn push_problem(text: &mut Text, command: u8, problem: Option<Problem>)
     }
 }
 
-/// Adds a problem with the data of a command as an object. An unknown command is null.
+/// Adds a problem with the data of a command as an object. For an unknown command, adds null.
 #[tactic(auto, using(crate::proofs::lemmas::Extended::extending), unfolding(json::specs::Print::escape_byte))]
 fn push_object_of(text: &mut Text, command: u8, problem: Problem)
     ensures { text.new ≡ extended text.old (compact_text (problem_data command problem)) }
@@ -83,7 +83,7 @@ fn push_object_of(text: &mut Text, command: u8, problem: Problem)
     }
 }
 
-/// Adds the object of fields.
+/// Adds the object of fields: one member for each field.
 #[tactic(auto, using(crate::proofs::lemmas::Json::said))]
 fn push_fields(text: &mut Text, pairs: &Pairs, fields: Fields<'_>)
     ensures { text.new ≡ extended text.old (compact_text (object_of (map field_member fields.entry))) }
@@ -122,6 +122,7 @@ fn push_field(text: &mut Text, pairs: &Pairs, field: &Field<'_>)
 }
 
 /// Adds the characters of a name, with a `_` for each space.
+#[tactic(auto, using(std::proofs::lemmas::Grind::common_steps, crate::proofs::lemmas::Extended::extending))]
 fn push_underscored(text: &mut Text, name: &str)
     ensures { text.new ≡ extended text.old (escape (map underscored name.now)) }
 {
@@ -199,6 +200,7 @@ pub(crate) fn push_name(text: &mut Text, name: Option<&str>)
 }
 
 /// Adds bytes as a string of upper-case hex.
+#[tactic(auto, using(crate::proofs::lemmas::Json::quoted_digits))]
 pub(crate) fn push_quoted_hex(text: &mut Text, pairs: &Pairs, bytes: &[u8])
     ensures { text.new ≡ extended text.old (quoted (encode_upper bytes.now)) }
 {
@@ -217,7 +219,7 @@ pub(crate) fn push_quoted(text: &mut Text, bytes: &[u8])
     push_text(text, "\"");
 }
 
-/// Adds the characters of a string, escaped where JSON wants it.
+/// Adds the characters of a string, escaped where JSON requires it.
 #[inline(always)]
 pub(crate) fn push_escaped(text: &mut Text, bytes: &[u8])
     ensures { text.new ≡ extended text.old (escape bytes.now) }
@@ -229,7 +231,8 @@ pub(crate) fn push_escaped(text: &mut Text, bytes: &[u8])
     }
 }
 
-/// Adds the characters of a string one by one, escaped where JSON wants it.
+/// Adds the characters of a string one by one, escaped where JSON requires it.
+#[tactic(auto, using(std::proofs::lemmas::Grind::common_steps, crate::proofs::lemmas::Extended::extending))]
 fn push_each_escaped(text: &mut Text, bytes: &[u8])
     ensures { text.new ≡ extended text.old (escape bytes.now) }
 {
@@ -238,7 +241,9 @@ fn push_each_escaped(text: &mut Text, bytes: &[u8])
     }
 }
 
-/// Returns true only if no character of a string is escaped. It has no early exit, so the compiler can evaluate it for a string literal.
+/// Returns true only if no character of a string is escaped. This function has no early exit, so that the compiler can evaluate it for a
+/// string literal.
+#[tactic(auto, using(crate::proofs::lemmas::Json::part_by_part))]
 #[inline(always)]
 fn are_plain(bytes: &[u8]) -> bool
     ensures { OnTrue result (escape bytes.now ≡ bytes.now) }
@@ -250,7 +255,7 @@ fn are_plain(bytes: &[u8]) -> bool
     plain
 }
 
-/// Adds a byte of a string, escaped where JSON wants it.
+/// Adds a byte of a string, escaped where JSON requires it.
 #[inline(always)]
 fn push_escaped_byte(text: &mut Text, byte: u8)
     ensures { text.new ≡ extended text.old (escape_byte byte) }
@@ -271,7 +276,7 @@ fn is_plain(byte: u8) -> bool
     byte >= b' ' && byte != b'"' && byte != b'\\'
 }
 
-/// Adds a byte of a string, by its escape if it has one.
+/// Adds a byte of a string that may have to be escaped.
 #[tactic(auto, using(crate::proofs::lemmas::Extended::extending), unfolding(json::specs::Print::escape_byte))]
 #[inline(never)]
 fn push_escape(text: &mut Text, byte: u8)

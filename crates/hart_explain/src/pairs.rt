@@ -1,12 +1,12 @@
-//! The two digits of each byte, as the library writes them, kept in a table. To write digits by lanes was slower, because most data are
-//! short.
+//! The two hex digits of each byte, as the crate `hex` writes them, kept in a table. Writing the digits with vector instructions was
+//! slower, because most data are short.
 ghost use Rattle.std.specs.Prelude.{◌≡◌, ◌∷◌, []};
 ghost use Rattle.hex.specs.Hex.{encode_upper};
 
 use crate::hex_text::digits_of;
 use std::marker::Model;
 
-/// The two digits of each byte in upper case hex. The library is asked for these digits only once.
+/// The two digits of each byte in upper case hex. The table asks the crate `hex` for them only once.
 #[derive(Drop)]
 pub struct Pairs {
     pairs: [[u8; 2]; 256],
@@ -24,7 +24,7 @@ impl Model for Pairs {
 }
 
 impl Pairs {
-    /// Asks the library for the digits of each byte.
+    /// Asks the crate `hex` for the digits of each byte.
     pub fn new() -> Pairs {
         let mut pairs = [[0; 2]; 256];
         for place in 0..256 {

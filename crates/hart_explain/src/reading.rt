@@ -22,7 +22,7 @@ pub enum Problem {
     TooFew { needed: usize },
     /// The command refuses the data with this response code.
     Refused { code: u8 },
-    /// The data are no reply to a known command.
+    /// The command is known, but the data are no reply to it.
     NoReply,
     /// The data are not read, because the response code is not 0.
     NotRead { code: u8 },
@@ -35,11 +35,11 @@ pub struct Reading<'a> {
     pub fields: Fields<'a>,
     /// The bytes that are ignored.
     pub ignored: &'a [u8],
-    /// What is wrong, if anything is.
+    /// What is wrong with the data, or `None` if nothing is.
     pub problem: Option<Problem>,
 }
 
-/// Reads the data of a request. If there are at most 255 of them, the words of the reading have at most 6,300 bytes, and its members of
+/// Reads the data of a request. If there are at most 255 data bytes, the words of the reading have at most 6,300 bytes, and its members of
 /// JSON at most 12,000.
 #[tactic(auto, unfolding(crate::specs::Reading::reading_of_request))]
 pub fn read_request(command: u8, bytes: &[u8]) -> Reading<'_>
@@ -126,7 +126,7 @@ fn no_reply<'a>(command: u8) -> Reading<'a>
     }
 }
 
-/// Returns a reading without fields and ignored bytes.
+/// Returns a reading without fields and without ignored bytes.
 fn nothing_found<'a>(problem: Option<Problem>) -> Reading<'a>
     ensures { seen_reading result ≡ nothing_found problem }
 {

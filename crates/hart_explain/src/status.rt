@@ -1,57 +1,12 @@
-//! The bits of the status bytes of a reply that have names.
+//! The names of the bits that are set in a status byte.
 ghost use Rattle.std.specs.Prelude.{◌≡◌, ◌∷◌, [], MatchOption, map};
-ghost use Rattle.hart_explain.specs.Status.{seen_bit, set_names};
+ghost use Rattle.hart_commands.specs.StatusBits.{seen_bit};
+ghost use Rattle.hart_explain.specs.Status.{set_names};
 
-use hart_values::{CommFaults, DeviceStatus};
+use hart_commands::NamedBit;
 use std::marker::Model;
 
-/// A bit of a status byte, and its name.
-pub struct NamedBit {
-    pub value: u8,
-    pub name: &'static str,
-}
-
-/// Makes a named bit in one line.
-macro_rules! bit {
-    ($value:expr, $name:literal) => {
-        NamedBit {
-            value: $value,
-            name: $name,
-        }
-    };
-}
-
-/// The communication faults that have names.
-pub const COMM_FAULTS: &[NamedBit] = &[
-    bit!(CommFaults::VERTICAL_PARITY, "vertical parity"),
-    bit!(CommFaults::OVERRUN, "overrun"),
-    bit!(CommFaults::FRAMING, "framing"),
-    bit!(CommFaults::LONGITUDINAL_PARITY, "longitudinal parity"),
-    bit!(CommFaults::BUFFER_OVERFLOW, "buffer overflow"),
-];
-
-/// The bits of the device status.
-pub const DEVICE_STATES: &[NamedBit] = &[
-    bit!(DeviceStatus::DEVICE_MALFUNCTION, "device malfunction"),
-    bit!(DeviceStatus::CONFIGURATION_CHANGED, "configuration changed"),
-    bit!(DeviceStatus::COLD_START, "cold start"),
-    bit!(DeviceStatus::MORE_STATUS_AVAILABLE, "more status available"),
-    bit!(DeviceStatus::LOOP_CURRENT_FIXED, "loop current fixed"),
-    bit!(
-        DeviceStatus::LOOP_CURRENT_SATURATED,
-        "loop current saturated"
-    ),
-    bit!(
-        DeviceStatus::NON_PRIMARY_VARIABLE_OUT_OF_LIMITS,
-        "non-primary variable out of limits"
-    ),
-    bit!(
-        DeviceStatus::PRIMARY_VARIABLE_OUT_OF_LIMITS,
-        "primary variable out of limits"
-    ),
-];
-
-/// The names that are left of the bits that are set in a byte.
+/// The names of the bits that are set in a byte, without those that `next` has returned already.
 #[derive(Drop)]
 pub struct SetNames<'a> {
     bits: &'a [NamedBit],
@@ -60,7 +15,8 @@ pub struct SetNames<'a> {
 
 impl<'a> Model for SetNames<'a> {
     ghost use Rattle.std.specs.Prelude.{List, ℕ, map};
-    ghost use Rattle.hart_explain.specs.Status.{seen_bit, set_names};
+    ghost use Rattle.hart_commands.specs.StatusBits.{seen_bit};
+    ghost use Rattle.hart_explain.specs.Status.{set_names};
 
     ghost Value = { List (List ℕ) };
 
@@ -75,7 +31,7 @@ impl<'a> SetNames<'a> {
         SetNames { bits, byte }
     }
 
-    /// Returns the next name.
+    /// Returns the next name, or `None` if there is none.
     pub fn next(&mut self) -> Option<&'static str>
         ensures { MatchOption result (self.old ≡ []) (λ name. self.old ≡ name.now ∷ self.new) }
     {

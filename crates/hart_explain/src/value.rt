@@ -21,7 +21,7 @@ const FIRST_YEAR: u16 = 1900;
 /// What a field holds.
 #[derive(Drop)]
 pub enum Value<'a> {
-    /// Bytes, also those of a float, and of a text that cannot be printed.
+    /// Bytes. This is also the value of a float, and of a text that cannot be printed.
     Raw(&'a [u8]),
     /// A number.
     Number(u16),
@@ -33,7 +33,7 @@ pub enum Value<'a> {
     Day(DayText),
     /// A date that is not set.
     NotSet,
-    /// Bytes of a date that are no date.
+    /// Bytes that are no date.
     NoDate(&'a [u8]),
     /// Device variables.
     Variables(&'a [[u8; 8]]),
@@ -56,7 +56,7 @@ pub(crate) fn held_value(kind: FieldKind, bytes: &[u8]) -> Value<'_>
     }
 }
 
-/// Returns the number of one or two bytes.
+/// Reads one or two bytes as a number.
 fn number_of(bytes: &[u8]) -> u16
     requires { suits FieldKind.Number (length bytes.now) ≡ true }
     ensures { result ≡ number_in bytes.now }
@@ -68,7 +68,7 @@ fn number_of(bytes: &[u8]) -> u16
     }
 }
 
-/// Returns the code in one byte.
+/// Reads the code of a unit, which has one byte.
 fn code_of(bytes: &[u8]) -> u8
     requires { suits FieldKind.UnitCode (length bytes.now) ≡ true }
     ensures { result ≡ number_in bytes.now }
@@ -104,7 +104,7 @@ fn characters<const N: usize>(bytes: &[u8]) -> Characters
     text
 }
 
-/// Returns a text in ISO Latin-1, or its bytes if not all of its characters can be printed.
+/// Returns the text that these bytes hold in ISO Latin-1, or the bytes if not all of its characters can be printed.
 #[tactic(auto, unfolding(crate::specs::Values::held_latin))]
 fn held_latin(bytes: &[u8]) -> Value<'_>
     requires { length bytes.now ≤ 32 }
@@ -132,6 +132,7 @@ fn is_printable(code: u8) -> bool
 }
 
 /// Returns characters of ISO Latin-1 in UTF-8.
+#[tactic(auto, using(crate::proofs::lemmas::Lengths::one_by_one))]
 fn in_utf8(characters: &[u8]) -> Characters
     requires { length characters.now ≤ 32 }
     ensures { result ≡ encode_utf8_all characters.now }

@@ -10,14 +10,13 @@ ghost use Rattle.hart_explain.specs.Values.{seen_value};
 ghost use Rattle.hart_explain.specs.Words.{bytes_line, bytes_or_none, field_line, hex_value, in_parentheses};
 ghost use Rattle.hart_explain.specs.Words.{name_words, problem_lines, said_line, reading_lines, unit_words, value_words, variable_words};
 
-use crate::codes::code_name;
 use crate::field::Field;
 use crate::fields::Fields;
 use crate::pairs::Pairs;
 use crate::reading::{Problem, Reading};
 use crate::text::{Text, push_byte, push_bytes, push_hex, push_number, push_text};
 use crate::value::Value;
-use hart_commands::unit_name;
+use hart_commands::{code_name, unit_name};
 
 mod header;
 mod sighting;
@@ -109,7 +108,7 @@ fn push_not_read(text: &mut Text, pairs: &Pairs, code: u8, bytes: &[u8])
     push_byte(text, b'\n');
 }
 
-/// Begins a line: adds its name.
+/// Adds the name at the start of a line.
 #[inline(always)]
 pub(crate) fn push_name(text: &mut Text, name: &str)
     ensures { text.new ≡ extended text.old (codes "    " ++ name.now ++ codes ": ") }
@@ -119,15 +118,24 @@ pub(crate) fn push_name(text: &mut Text, name: &str)
     push_text(text, ": ");
 }
 
-/// Adds the line of bytes, if there are any.
+/// Adds the line of bytes, if there are any. Most messages have none, and then no function is called.
+#[inline(always)]
 pub(crate) fn push_bytes_line(text: &mut Text, pairs: &Pairs, name: &str, bytes: &[u8])
     ensures { text.new ≡ extended text.old (bytes_line name.now bytes.now) }
 {
     if !bytes.is_empty() {
-        push_name(text, name);
-        push_hex_value(text, pairs, bytes);
-        push_byte(text, b'\n');
+        push_hex_line(text, pairs, name, bytes);
     }
+}
+
+/// Adds the line of a name and of bytes in hex.
+#[inline(never)]
+fn push_hex_line(text: &mut Text, pairs: &Pairs, name: &str, bytes: &[u8])
+    ensures { text.new ≡ extended text.old (said_line name.now (hex_value bytes.now)) }
+{
+    push_name(text, name);
+    push_hex_value(text, pairs, bytes);
+    push_byte(text, b'\n');
 }
 
 /// Adds bytes, or `none`.
@@ -203,6 +211,7 @@ fn push_in_parentheses(text: &mut Text, name: Option<&str>)
 }
 
 /// Adds device variables, with a semicolon and a space between two of them.
+#[tactic(auto, using(std::proofs::lemmas::Grind::common_steps, crate::proofs::lemmas::Extended::extending))]
 fn push_variables(text: &mut Text, pairs: &Pairs, variables: &[[u8; 8]])
     ensures { text.new ≡ extended text.old (join_by variable_words (codes "; ") variables.now) }
 {

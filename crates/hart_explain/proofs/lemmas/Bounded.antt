@@ -22,7 +22,7 @@ use Rattle.hart_explain.specs.Reading.{Reading, not_read, nothing_found, reading
 use Rattle.hart_explain.specs.declared.reading.Problem.{Problem}
 use Rattle.hart_explain.specs.declared.reading.Problem.TheVariants.{NoReply, NotRead, Refused, TooFew, UnknownCommand}
 
--- the first bytes, and the bytes after them, are bytes
+-- parts of a list of bytes are lists of bytes too
 pub take_bytes : (n : ℕ) (bytes : List ℕ) → IsBytes bytes → IsBytes (take n bytes)
 take_bytes zero bytes are i = omega arith
 take_bytes (suc n) [] are i = are i
@@ -36,11 +36,11 @@ drop_bytes n bytes are i = grind (arith, get_or-drop n bytes i 0, are (n + i))
 abbrev pub is_short : Row → Bool
 is_short row = nat_le (length row.name) 40
 
--- whether rows are at most 16, have short names, and have sizes that suit their kinds
+-- whether there are at most 16 rows, with short names and with sizes that their kinds allow
 abbrev pub rows_fit : List Row → Bool
 rows_fit rows = nat_le (length rows) 16 && list_all is_short rows && sizes_suit rows
 
--- whether the rows of a command fit, it needs at most 255 data bytes, and its name has at most 64 characters
+-- whether a command is small: its rows fit, it needs at most 255 data bytes, and its name has at most 64 characters
 command_fits : Command → Bool
 command_fits command =
     rows_fit command.request && rows_fit command.reply && nat_le command.needed 255 && nat_le (length command.name) 64
@@ -64,14 +64,14 @@ pub command_name-short : (command : ℕ) → IfSome (command_name command) (λ n
 unfolding command_fits
 command_name-short command = grind (arith, common_steps, nat_tests, known-fits command)
 
--- the numbers of a problem are those of its type
+-- the numbers of a problem are in the range of their type
 abbrev pub InRange : Problem → Type 0
 InRange (TooFew needed) = needed < 2 ^ 64
 InRange (Refused code) = code < 256
 InRange (NotRead code) = code < 256
 InRange _ = Unit {0}
 
--- a reading of at most 255 bytes
+-- a reading of at most 255 bytes: its fields and its ignored bytes are bytes, and its rows fit
 pub record IsBounded (reading : Reading) : Type 0 where
   pub rows : List Row
   pub part : List ℕ
@@ -83,7 +83,7 @@ pub record IsBounded (reading : Reading) : Type 0 where
   pub ignored_len : length reading.ignored ≤ 255
   pub range : IfSome reading.problem InRange
 
--- readings of bytes are bounded
+-- the lemmas below show that each reading of at most 255 bytes is bounded
 no_bytes : IsBytes []
 no_bytes i = omega arith
 
@@ -128,7 +128,7 @@ refused-bounded rows code bytes fit are few small = record {
   range = small;
 }
 
--- one of two bounded readings is bounded
+-- if two readings are bounded, so is the one that a test chooses
 one-bounded : (test : Bool) (one other : Reading) → IsBounded one → IsBounded other → IsBounded (if test then one else other)
 one-bounded true one other is are = is
 one-bounded false one other is are = are
@@ -140,7 +140,7 @@ refused-bounded-by command code bytes are few small =
     (one-bounded (code == 5) _ _ (nothing-bounded (Some (TooFew (needed_data command))) (omega (arith, needed-small command)))
     (refused-bounded (request_rows command) code bytes (rows-fit command).0 are few small))
 
--- what is wrong with data that are no reply
+-- the reading of data that are no reply is bounded
 no-reply-bounded : (command : ℕ) (test : Bool) → IsBounded (nothing_found (Some (if test then NoReply else UnknownCommand)))
 no-reply-bounded command true = nothing-bounded (Some NoReply) tt
 no-reply-bounded command false = nothing-bounded (Some UnknownCommand) tt
@@ -157,7 +157,7 @@ replied-bounded command bytes (Some reply) are few small =
     (taken-bounded (reply_rows command) (length (content_bytes reply.content)) bytes (rows-fit command).1 are few)
     (not-read-bounded reply.code bytes small)
 
--- the code of a reply is the first byte of its payload
+-- the code of a reply that is read is below 256
 one-code : (faulty good known : Bool) (content : Option ReplyContent) (say : ReplyContent → Reply)
     → ((content : ReplyContent) → (say content).code < 256)
     → IfSome (if faulty then None else if good then option_map say content else if known then Some (say no_content) else None)
@@ -174,7 +174,7 @@ code-is command first second bytes small =
     one-code (nat_lt 127 first) (first == 0) (is_known command) (content_reading command bytes)
     (λ content. record { command = command; code = first; status = record { 0 = second }; content = content }) (λ content. small)
 
--- a reading that ignores all bytes
+-- a reading that ignores all bytes is bounded
 ignoring-bounded : (bytes : List ℕ) → IsBytes bytes → length bytes ≤ 255
     → IsBounded (record { fields = []; ignored = bytes; problem = None })
 ignoring-bounded bytes are few = record {

@@ -1,6 +1,6 @@
 -- The text of objects and lists of JSON.
 use Rattle.std.proofs.Common.{◌≡◌, ◌<◌, ◌/◌, ◌%◌, ℕ, suc, Bool, true, List, [], ◌∷◌, ◌++◌, append-nil, append_assoc, arith}
-use Rattle.std.proofs.Common.{Fits, get_or, map, nat_le, refl, w8}
+use Rattle.std.proofs.Common.{Fits, get_or, length-append, map, nat_le, refl, w8}
 use Rattle.std.proofs.lemmas.Bool.Decides.{nat_tests}
 use Rattle.std.proofs.lemmas.Grind.{common_steps, flat_map-append}
 use Rattle.std.proofs.lemmas.List.Folds.{list_all_at}
@@ -14,25 +14,25 @@ use Rattle.hart_explain.proofs.lemmas.Extended.{also, extended_nothing, extended
 use Rattle.hart_explain.specs.Text.{extended}
 use Rattle.hart_explain.specs.Json.{Named, further_member, further_members, items_of, member_words, members_of, object_of}
 
--- further members and a brace end an object
+-- the text of further members, followed by a brace, ends an object
 pub further-is : (members : List Named) → members_text true (members_of members) ≡ further_members members ++ 125 ∷ []
 unfolding further_member
 further-is [] = refl
 further-is (first ∷ others) = grind (arith, append_assoc, further-is others)
 
--- the text of an object is its first member, the further ones, and braces
+-- the text of an object is its first member and the further members, in braces
 pub object-is : (first : Named) (others : List Named)
     → compact_text (object_of (first ∷ others)) ≡ 123 ∷ member_words first ++ further_members others ++ 125 ∷ []
 unfolding further_member
 object-is first others = grind (arith, append_assoc, further-is others)
 
--- further values and a bracket end a list
+-- the text of further values, followed by a bracket, ends a list
 pub items-is : {X : Type 0} (f : X → Data) (xs : List X)
     → items_text true (items_of (map f xs)) ≡ flat_map (λ x. 44 ∷ [] ++ compact_text (f x)) xs ++ 93 ∷ []
 items-is f [] = refl
 items-is f (x ∷ xs) = grind (arith, append_assoc, items-is f xs)
 
--- whether a character is a hex digit or stands between two of them
+-- whether a byte lies between the codes of `0` and `F`: a hex digit, or a character between the digits and the letters
 is_near_digit : ℕ → Bool
 is_near_digit code = nat_le 48 code && nat_le code 70
 
@@ -50,10 +50,19 @@ escape-hex (byte ∷ bytes) fits =
     let rest = escape-hex bytes (λ i. fits (suc i)) in
     grind (arith, escape-digit (byte / 16), escape-digit (byte % 16))
 
--- objects and lists that are printed piece by piece
+-- the rules for objects and lists that are printed piece by piece
 pub ruleset said = (extended_on, extended_nothing, append_assoc, append-nil, object-is, items-is)
 
--- members that are printed one list after the other
+-- the rule by which what is printed for joined bytes is printed for both parts
+pub ruleset part_by_part = (common_steps, flat_map-append)
+
+-- the rules for a string of hex digits that is printed in quotes
+pub ruleset quoted_digits = (extended_on, extended_nothing, append_assoc, append-nil, escape-hex)
+
+-- if two calls each added members, all these members were added in order
 pub members-on : (a b c : List ℕ) (xs ys : List Named) → b ≡ extended a (further_members xs) → c ≡ extended b (further_members ys)
     → c ≡ extended a (further_members (xs ++ ys))
 members-on a b c xs ys h k = rw (flat_map-append further_member xs ys) (also a b c _ _ h k)
+
+-- the rules for an object that is printed in a line of its own
+pub ruleset line_of = (extended_on, extended_nothing, append_assoc, append-nil, length-append)

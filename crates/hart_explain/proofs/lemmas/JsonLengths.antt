@@ -1,4 +1,4 @@
--- How long the members of a reading are at most, as members of an object of JSON.
+-- The greatest number of characters in the members of a reading, as members of an object of JSON.
 use Rattle.std.proofs.Common.{◌≡◌, ◌≤◌, ◌<◌, ◌+◌, ◌*◌, ◌/◌, ℕ, zero, suc, true, List, [], ◌∷◌, ◌++◌, Option, None, Some, IfSome}
 use Rattle.std.proofs.Common.{ap, arith, codes, drop, length, length-append, map, nat_le, sym, take}
 use Rattle.std.proofs.lemmas.Bool.{and_parts, leb-true}
@@ -24,7 +24,7 @@ use Rattle.hart_explain.proofs.lemmas.Json.{escape-hex, further-is, items-is}
 use Rattle.hart_explain.specs.Json.{Named, field_member, further_member, further_members, hex, list_of, name_or_null, named, object_of}
 use Rattle.hart_explain.specs.Json.{problem_data, reading_members, underscored, value_data, variable_data}
 use Rattle.hart_explain.specs.Reading.{Reading}
-use Rattle.hart_explain.specs.Codes.{code_name}
+use Rattle.hart_commands.specs.Codes.{code_name}
 use Rattle.hart_explain.specs.declared.reading.Problem.{Problem}
 use Rattle.hart_explain.specs.declared.reading.Problem.TheVariants.{NoReply, NotRead, Refused, TooFew, UnknownCommand}
 use Rattle.hart_explain.proofs.lemmas.Bounded.{InRange, IsBounded, drop_bytes, is_short, take_bytes}
@@ -40,7 +40,7 @@ escape-fits : (bytes : List ℕ) → length (escape bytes) ≤ 6 * length bytes
 escape-fits [] = omega arith
 escape-fits (byte ∷ bytes) = simp length-append (omega (arith, byte-fits byte, escape-fits bytes))
 
--- the digits of bytes as a string
+-- bytes as a string have two characters for each byte, and two quotes
 hex-data-fits : (bytes : List ℕ) → IsBytes bytes → length (compact_text (hex bytes)) ≡ 2 + 2 * length bytes
 hex-data-fits bytes are = grind (arith, length-append, length-encode_with, escape-hex bytes (λ i. omega (arith, are i)))
 
@@ -51,7 +51,7 @@ one_byte : (byte : ℕ) → byte < 256 → IsBytes (byte ∷ [])
 one_byte byte small zero = small
 one_byte byte small (suc i) = omega arith
 
--- a device variable as an object
+-- a device variable as an object has at most 100 characters
 variable-data-fits : (bytes : List ℕ) → IsBytes bytes → length (compact_text (variable_data bytes)) ≤ 100
 unfolding escape_byte
 variable-data-fits bytes are =
@@ -66,7 +66,7 @@ variable-data-fits bytes are =
 further-data-fits : (bytes : List ℕ) → IsBytes bytes → length (44 ∷ [] ++ compact_text (variable_data bytes)) ≤ 101
 further-data-fits bytes are = omega (arith, variable-data-fits bytes are)
 
--- a list is as long as its values, each with a comma, and two characters
+-- a list has the characters of its values, a comma for each, and at most two more
 list-fits : (f : List ℕ → Data) (first : List ℕ) (others : List (List ℕ)) (each rest : ℕ) → length (compact_text (f first)) ≤ each
     → length (flat_map (λ x. 44 ∷ [] ++ compact_text (f x)) others) ≤ rest
     → length (compact_text (list_of (map f (first ∷ others)))) ≤ each + rest + 2
@@ -83,7 +83,7 @@ variables-data-fit (suc count) bytes are =
     let all = list-fits variable_data (take 8 bytes) (first_chunks 8 count (drop 8 bytes)) 100 (101 * count) first rest in
     omega (arith, all)
 
--- the value of a field has at most 15 characters for each byte, and 100
+-- the value of a field has at most 15 characters for each byte, and 100 more
 date-data-fits : (bytes : List ℕ) → IsBytes bytes → length (compact_text (value_data (held_date bytes))) ≤ 15 * length bytes + 100
 date-data-fits (day ∷ month ∷ year ∷ []) are =
     let fits = day-fits day month year (are 0) (are 1) (are 2) in
@@ -110,7 +110,7 @@ value-data-fits kinds.Date bytes is are = omega (arith, date-data-fits bytes are
 value-data-fits kinds.Variables bytes is are =
     let all = variables-data-fit (length bytes / 8) bytes are in omega (arith, all)
 
--- the member of a field
+-- the member of a field has at most 15 characters for each byte, and 344 more
 member-fits : TextFits (λ field. further_member (field_member field)) 344
 unfolding further_member
 member-fits field fit =
@@ -118,7 +118,7 @@ member-fits field fit =
     let value = value-data-fits field.kind field.bytes fit.1 fit.2 in
     simp length-append (omega (arith, length-map field.name underscored, name, value, fit.0))
 
--- an object is as long as its members, each with a comma, and two characters
+-- an object has the characters of its members, a comma for each, and at most two more
 pub object-fits : (members : List Named) → length (compact_text (object_of members)) ≤ length (further_members members) + 2
 unfolding further_member
 object-fits [] = omega arith
@@ -134,7 +134,7 @@ fields-data-fit reading b =
     let all = rw (sym b.found, sym (flat_map-map further_member field_member reading.fields)) at fields in
     omega (arith, object-fits (map field_member reading.fields), all, count, b.part_len)
 
--- the name of a response code as a string, or null
+-- the name of a response code is short, as a string or as null
 name-data-fits : (name : Option (List ℕ)) → IfSome name (λ name. length name ≤ 23) → length (compact_text (name_or_null name)) ≤ 140
 name-data-fits None short = omega arith
 name-data-fits (Some name) short = omega (arith, string-fits name, short)
@@ -159,13 +159,13 @@ wrong-data-fits : (command : ℕ) (problem : Option Problem) → IfSome problem 
 wrong-data-fits command None range = omega arith
 wrong-data-fits command (Some problem) range = problem-data-fits command problem range
 
--- a member with a comma before it
+-- a member has the characters of its name and of its value, and a few more
 pub named-fits : (name : List ℕ) (value : Data)
     → length (further_member (record { name = name; value = value })) ≤ 4 + 6 * length name + length (compact_text value)
 unfolding further_member
 named-fits name value = simp length-append (omega (arith, escape-fits name))
 
--- four members
+-- if four members are short, they are short together
 four-fit : (a b c d : List ℕ) → length a ≤ 600 → length b ≤ 9400 → length c ≤ 600 → length d ≤ 300
     → length (a ++ (b ++ (c ++ (d ++ [])))) ≤ 12000
 four-fit a b c d first second third fourth = simp length-append (omega (arith, first, second, third, fourth))

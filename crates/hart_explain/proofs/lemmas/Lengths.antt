@@ -1,13 +1,13 @@
--- How long the words of a reading are at most.
+-- The greatest number of characters in the words of a reading.
 use Rattle.std.proofs.Common.{◌≡◌, ◌≤◌, ◌<◌, ◌+◌, ◌*◌, ◌/◌, ◌%◌, ◌==◌, ℕ, zero, suc, true, List, [], ◌∷◌, ◌++◌, Option, None, Some, IfSome}
-use Rattle.std.proofs.Common.{ap, arith, codes, drop, length, length-append, nat_le, refl, rules, sym, take}
+use Rattle.std.proofs.Common.{ap, append_assoc, arith, codes, drop, length, length-append, nat_le, refl, rules, sym, take}
 use Rattle.std.proofs.Math.Nat.{mul-suc}
 use Rattle.std.proofs.lemmas.Bool.{and_parts, leb-true}
 use Rattle.std.proofs.lemmas.Bool.Decides.{nat_tests}
 use Rattle.std.proofs.lemmas.Fmt.{length-decimal-le}
 use Rattle.std.proofs.lemmas.Grind.{common_steps}
 use Rattle.std.proofs.lemmas.List.{length-take}
-use Rattle.std.proofs.lemmas.Str.{length-encode}
+use Rattle.std.proofs.lemmas.Str.{encodes-append, length-encode}
 use Rattle.std.specs.List.{AllByRecursion, find, flat_map, join_by, list_all}
 use Rattle.std.specs.Option.{option_map, option_map_or}
 use Rattle.std.specs.Prelude.{◌&&◌, decimal, encode_utf8_all}
@@ -23,7 +23,7 @@ use Rattle.hart_explain.specs.Values.{day_words, held_date, held_latin, held_val
 use Rattle.hart_explain.specs.Values.{unpacked}
 use Rattle.hart_explain.proofs.lemmas.Rows.{split-is}
 use Rattle.hart_explain.specs.Reading.{Reading}
-use Rattle.hart_explain.specs.Codes.{code_name}
+use Rattle.hart_commands.specs.Codes.{code_name}
 use Rattle.hart_explain.specs.declared.reading.Problem.{Problem}
 use Rattle.hart_explain.specs.declared.reading.Problem.TheVariants.{NoReply, NotRead, Refused, TooFew, UnknownCommand}
 use Rattle.hart_explain.specs.Words.{bytes_line, field_line, name_words, problem_lines, reading_lines, hex_value, unit_words, value_words}
@@ -86,7 +86,7 @@ variable-fits bytes are =
     let value : length (take 4 (drop 3 bytes)) ≤ 4 = grind (arith, length-take 4 (drop 3 bytes)) in
     simp (length-append, hex-fits) (omega (arith, code, classification, unit, value))
 
--- where each chunk of eight bytes has a text of at most `each` characters, the chunks have as many in all
+-- if each chunk of eight bytes has a text of at most `each` characters, all chunks together have at most `each` characters per chunk
 pub chunks-fit : (f : List ℕ → List ℕ) (each : ℕ) → ((chunk : List ℕ) → IsBytes chunk → length (f chunk) ≤ each) → (count : ℕ)
     (bytes : List ℕ) → IsBytes bytes → length (flat_map f (first_chunks 8 count bytes)) ≤ each * count
 chunks-fit f each fit zero bytes are = omega arith
@@ -95,7 +95,7 @@ chunks-fit f each fit (suc count) bytes are =
     let rest = chunks-fit f each fit count (drop 8 bytes) (drop_bytes 8 bytes are) in
     simp (length-append, mul-suc) (omega (arith, first, rest))
 
--- device variables have at most 120 characters each
+-- the words of a device variable, after a semicolon and a space, have at most 120 characters
 further-fits : (bytes : List ℕ) → IsBytes bytes → length (codes "; " ++ variable_words bytes) ≤ 120
 further-fits bytes are = omega (arith, variable-fits bytes are)
 
@@ -108,7 +108,7 @@ joined-fit (suc count) bytes are =
     let rest = chunks-fit further 120 further-fits count (drop 8 bytes) (drop_bytes 8 bytes are) in
     simp length-append (omega (arith, first, rest))
 
--- a text has at most two bytes for each byte of its field
+-- the text of a field has at most two bytes for each byte of the field
 pub unpacked-fits : (bytes : List ℕ) → length (unpacked bytes) ≤ 2 * length bytes
 unpacked-fits (a ∷ b ∷ c ∷ rest) = omega (arith, unpacked-fits rest)
 unpacked-fits [] = omega arith
@@ -121,7 +121,7 @@ utf8-fits (byte ∷ bytes) are =
     let small : byte < 256 = are 0 in
     let rest = utf8-fits bytes (λ i. are (suc i)) in grind (arith, common_steps, nat_tests, length-append, length-encode byte)
 
--- a day of three bytes has at most 20 characters
+-- the text of a day in three bytes has at most 20 characters
 digits-fit : (n : ℕ) → n < 256 → length (two_digits n) ≤ 6
 digits-fit n small =
     let high = decimal_byte (n / 10) (omega arith) in
@@ -146,7 +146,7 @@ latin-fits : (bytes : List ℕ) → IsBytes bytes → length (value_words (held_
 unfolding held_latin
 latin-fits bytes are = grind (arith, common_steps, length-append, hex-fits, utf8-fits bytes are)
 
--- the words of a value have at most 15 characters for each byte, and 36
+-- the words of a value have at most 15 characters for each byte, and 36 more
 value-fits : (kind : FieldKind) (bytes : List ℕ) → suits kind (length bytes) ≡ true → IsBytes bytes
     → length (value_words (held_value kind bytes)) ≤ 15 * length bytes + 36
 value-fits kinds.Bytes bytes is are = omega (arith, hex-fits bytes)
@@ -159,12 +159,12 @@ value-fits kinds.Date bytes is are = omega (arith, date-fits bytes are)
 value-fits kinds.Variables bytes is are =
     let all = joined-fit (length bytes / 8) bytes are in omega (arith, all)
 
--- the number of bytes of a field suits its kind
+-- a field has a number of bytes that its kind allows
 suits-of : (kind : FieldKind) (size : FieldSize) (bytes field after : List ℕ) → suits_size kind size ≡ true
     → split size bytes ≡ Some (field, after) → suits kind (length field) ≡ true
 suits-of kind size bytes field after suit is = grind (arith, common_steps, split-is size bytes field after is)
 
--- a field and the bytes after it are bytes
+-- if a list is bytes, a field at its front and the rest after it are bytes too
 parts-are : (size : Option ℕ) (bytes field after : List ℕ)
     → option_map {U = List ℕ × List ℕ} (λ n. (take n bytes, drop n bytes)) size ≡ Some (field, after)
     → IsBytes bytes → IsBytes field × IsBytes after
@@ -173,11 +173,11 @@ parts-are (Some n) bytes field after is are =
     let pair : ◌≡◌ {A = List ℕ × List ℕ} (take n bytes, drop n bytes) (field, after) = cc in
     (rw (ap (λ parts. parts.0) pair) at (take_bytes n bytes are), rw (ap (λ parts. parts.1) pair) at (drop_bytes n bytes are))
 
--- fields that are found in bytes
+-- a field that was found in bytes: it has a short name, and bytes in a number that its kind allows
 abbrev pub FieldFits : Field → Type 0
 FieldFits field = (length field.name ≤ 40) × (suits field.kind (length field.bytes) ≡ true) × IsBytes field.bytes
 
--- a text of each field with at most 15 bytes for each byte of the field, and `each`
+-- `f` makes a text of each field, with at most 15 characters for each byte of the field, and `each` more
 abbrev pub TextFits : (Field → List ℕ) → ℕ → Type 0
 TextFits f each = (field : Field) → FieldFits field → length (f field) ≤ 15 * length field.bytes + each
 
@@ -196,7 +196,7 @@ found-fit f each fit row others bytes short suit are rest (Some (field, after)) 
     let first = fit found (leb-true (length row.name) 40 short, suits-of row.kind row.size bytes field after suit is, parts.0) in
     let later = rest after parts.1 in simp (length-append, mul-suc) (omega (arith, first, later, sizes.1))
 
--- the texts of the fields that are found in bytes
+-- the texts of all fields in some bytes are short, if the text of each field is
 pub fields-fit : (f : Field → List ℕ) (each : ℕ) → TextFits f each → (rows : List Row) (bytes : List ℕ) → list_all is_short rows ≡ true
     → sizes_suit rows ≡ true → IsBytes bytes → length (flat_map f (fields_of rows bytes)) ≤ 15 * length bytes + each * length rows
 fields-fit f each fit [] bytes short suit are = omega arith
@@ -206,7 +206,7 @@ fields-fit f each fit (row ∷ others) bytes short suit are =
     found-fit f each fit row others bytes names.0 sizes.0 are (λ after bytes. fields-fit f each fit others after names.1 sizes.1 bytes)
     (split row.size bytes) refl
 
--- the line of a field
+-- the line of a field has at most 15 characters for each byte, and 83 more
 line-fits : TextFits field_line 83
 unfolding field_line
 line-fits field fit = let value = value-fits field.kind field.bytes fit.1 fit.2 in simp length-append (omega (arith, value, fit.0))
@@ -235,7 +235,7 @@ problem-fits command bytes (NotRead code) small few range =
     let name : length (codes "not read (code " ++ decimal code ++ codes ")") ≤ 19 = simp length-append (omega (arith, number)) in
     omega (arith, line, name)
 
--- what is wrong, if anything is
+-- the lines of what is wrong are short
 wrong-fits : (command : ℕ) (bytes : List ℕ) (problem : Option Problem) → command < 256 → length bytes ≤ 255 → IfSome problem InRange
     → length (option_map_or (problem_lines command bytes) problem []) ≤ 572
 wrong-fits command bytes None small few range = omega arith
@@ -253,3 +253,6 @@ words-fit command bytes reading small few b =
     let wrong = wrong-fits command bytes reading.problem small few b.range in
     let ignored = bytes-line-fits (codes "ignored") reading.ignored in
     simp length-append (omega (arith, fields, wrong, ignored, count, b.part_len, b.ignored_len))
+
+-- the rules for characters that are written one after another, each in at most two bytes
+pub ruleset one_by_one = (common_steps, encodes-append, append_assoc, length-append)

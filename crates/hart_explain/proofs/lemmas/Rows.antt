@@ -1,4 +1,4 @@
--- The table of the commands: the sizes of the fields of its data suit their kinds.
+-- The table of the commands: each field has a size that its kind allows.
 use Rattle.std.proofs.Common.{◌≡◌, ◌+◌, ℕ, Bool, true, IfSome, List, Some, arith, drop, length, length-drop, rules}
 use Rattle.std.proofs.lemmas.Bool.Decides.{nat_tests}
 use Rattle.std.proofs.lemmas.Grind.{common_steps}
@@ -11,7 +11,7 @@ use Rattle.hart_commands.specs.declared.fields.FieldSize.{FieldSize}
 use Rattle.hart_commands.proofs.lemmas.Rows.{of_known}
 use Rattle.hart_explain.specs.Values.{sizes_suit}
 
--- whether the sizes of the fields of a command suit their kinds
+-- whether each field of a command has a size that its kind allows
 sizes_of_command_suit : Command → Bool
 sizes_of_command_suit command = sizes_suit command.request && sizes_suit command.reply
 
@@ -22,7 +22,7 @@ all_can = search rules
 can : (command : ℕ) → IfSome (known command) (λ found. (found.number ≡ command) × (sizes_of_command_suit found ≡ true))
 can command = of_known (λ found. sizes_of_command_suit found ≡ true) command all_can
 
--- the sizes of the fields of the requests and of the replies of a command suit their kinds
+-- each field of a command's request and reply has a size that its kind allows
 pub rows-suit : (command : ℕ) → (sizes_suit (request_rows command) ≡ true) × (sizes_suit (reply_rows command) ≡ true)
 unfolding sizes_of_command_suit
 rows-suit command = grind (arith, common_steps, nat_tests, can command)
@@ -32,3 +32,6 @@ pub split-is : (size : FieldSize) (bytes field after : List ℕ) → split size 
     → (size_in size (length bytes) ≡ Some (length field)) × (length field + length after ≡ length bytes)
     × (after ≡ drop (length field) bytes)
 split-is size bytes field after is = grind (arith, common_steps, nat_tests, length-take-le, length-drop)
+
+-- the rule by which a row of fields takes its bytes from the front
+pub ruleset taken_off = (split-is)

@@ -1,4 +1,4 @@
--- How long what is said of a sighting is at most, in words and as a line of JSON.
+-- The greatest number of characters in the text of a sighting, in words and as a line of JSON.
 use Rattle.std.proofs.Common.{◌≡◌, ◌≤◌, ◌<◌, ◌+◌, ◌*◌, ℕ, Bool, true, false, List, [], ◌∷◌, ◌++◌, Option, None, Some, IfSome}
 use Prim.Native.String.{String}
 use Rattle.std.proofs.Common.{ap, append-nil, append_assoc, arith, codes, subst, length, length-append, nat_le, refl}
@@ -24,19 +24,20 @@ use Rattle.hart_frame.specs.declared.wire.kind.FrameKind.TheVariants.{Ack, Stx}
 use Rattle.hart_frame.specs.heard.Sighting.{Message}
 use Rattle.hart_frame.specs.wire.FrameParts.{FrameParts}
 use Rattle.hart_frame.specs.wire.Header.{HeaderParts, header_of}
-use Rattle.hart_explain.specs.declared.objects.sighting.Before.{Before}
-use Rattle.hart_explain.specs.Codes.{code_name}
+use Rattle.hart_explain.specs.declared.before.Before.{Before}
+use Rattle.hart_commands.specs.Codes.{code_name}
 use Rattle.hart_explain.specs.Header.{address_word, command_members, device_words, ends_members, header_words, kind_name, master_name}
 use Rattle.hart_explain.specs.Header.{header_value, master_words, named_number, speaker_members, who_words}
 use Rattle.hart_explain.specs.Json.{Named, count, further_member, further_members, hex, name_or_null, named, object_of}
 use Rattle.hart_explain.specs.Json.{reading_members, word}
 use Rattle.hart_explain.specs.Reading.{Reading}
 use Rattle.hart_explain.specs.Message.{before_member, burst_line, frame_members, message_line, message_members, paragraph}
-use Rattle.hart_explain.specs.Message.{payload_lines, payload_members}
+use Rattle.hart_explain.specs.Message.{payload_lines, payload_members, sending_words}
 use Rattle.hart_explain.specs.Miss.{miss_members, reason_members, seems_line, seems_value}
 use Rattle.hart_explain.specs.Sighting.{data_of, date_words, time_members}
-use Rattle.hart_explain.specs.Status.{NamedBit, comm_faults, device_states, fault_members, is_set, names_value, names_words}
-use Rattle.hart_explain.specs.Status.{response_members, set_names, status_lines, status_members}
+use Rattle.hart_commands.specs.StatusBits.{NamedBit, comm_faults, device_states}
+use Rattle.hart_explain.specs.Status.{fault_members, is_set, names_value, names_words, response_members, set_names, status_lines}
+use Rattle.hart_explain.specs.Status.{status_members}
 use Rattle.hart_explain.specs.Words.{bytes_line, name_words, said_line}
 use Rattle.hart_explain.proofs.lemmas.Bounded.{command_name-short}
 use Rattle.hart_explain.proofs.lemmas.Extended.{extended_nothing, extended_on}
@@ -44,7 +45,7 @@ use Rattle.hart_explain.proofs.lemmas.Lengths.{bytes-line-fits, decimal_byte, na
 use Rattle.hart_explain.proofs.lemmas.JsonLengths.{code_name-short, named-fits, object-fits, string-fits}
 use Rattle.hart_explain.proofs.lemmas.Json.{items-is}
 
--- the names of the bits that are set, each with a text around it
+-- whether a named bit has a name of at most 40 characters
 is_short_bit : NamedBit → Bool
 is_short_bit bit = nat_le (length bit.name) 40
 
@@ -64,7 +65,7 @@ names-fit f each fit byte (bit ∷ bits) short =
     let rest = names-fit f each fit byte bits parts.1 in
     simp (flat_map-append, length-append, mul-suc) (omega (arith, first, rest))
 
--- the words of names
+-- the words of some names are short if the names are
 joined-names-fit : (names : List (List ℕ)) → length (names_words names) ≤ length (flat_map (λ name. codes ", " ++ name) names) + 4
 joined-names-fit [] = omega arith
 joined-names-fit (name ∷ others) = simp length-append (omega arith)
@@ -86,13 +87,13 @@ faults-fit : (byte : ℕ) → length (names_words (set_names byte comm_faults)) 
 unfolding is_short_bit
 faults-fit byte = set-names-fit byte comm_faults refl (omega arith)
 
--- one of two texts
+-- if two texts are short, so is the one that a test chooses
 either-fits : (test : Bool) (one other : List ℕ) (most : ℕ) → length one ≤ most → length other ≤ most
     → length (if test then one else other) ≤ most
 either-fits true one other most fits fit = fits
 either-fits false one other most fits fit = fit
 
--- the lines of two status bytes
+-- the lines of two status bytes have at most 500 characters
 pub status-fits : (command first second : ℕ) → first < 256 → length (status_lines command first second) ≤ 500
 status-fits command first second small =
     let number = decimal_byte first small in
@@ -105,11 +106,11 @@ status-fits command first second small =
     (said_line (codes "communication faults") (names_words (set_names first comm_faults))) 500
     (simp length-append (omega (arith, number, name, states))) (simp length-append (omega (arith, faults)))
 
--- the lines of two status bytes and of the data after them
+-- the lines of two status bytes and of the data after them have at most 6,800 characters
 pub reply-fits : (status rest : List ℕ) → length status ≤ 500 → length rest ≤ 6300 → length (status ++ rest) ≤ 6800
 reply-fits status rest first second = simp length-append (omega (arith, first, second))
 
--- the words of an address whose word is short
+-- the words of an address are short if the word of the address is
 device-fits : (broadcast : List ℕ) (address : Address) → length broadcast ≤ 18 → length (address_word address) ≤ 21
     → length (device_words broadcast address) ≤ 51
 device-fits broadcast (Polling number) few short = simp length-append (omega (arith, short))
@@ -126,7 +127,7 @@ who-fits Stx master address short =
 who-fits Ack master address short =
     simp length-append (omega (arith, master-fits master, device-fits (codes "one of all devices") address (omega arith) short))
 
--- the words of a name of a command
+-- the words for the name of a command are short
 command-name-fits : (name : Option (List ℕ)) → IfSome name (λ name. length name ≤ 64) → length (name_words name) ≤ 66
 command-name-fits None short = omega arith
 command-name-fits (Some name) short = omega (arith, short)
@@ -139,32 +140,33 @@ header-fits header short small =
     let name = command-name-fits (command_name header.command) (command_name-short header.command) in
     simp length-append (omega (arith, who, number, name))
 
--- the ten digits of a device, and `all`
+-- the word of a unique address is short
 pub unique_short : (numbers : DeviceNumbers) → length (address_word (Unique numbers)) ≤ 21
 unique_short numbers = grind (arith, common_steps, length-encode_with)
 
--- the word of an address that is printed piece by piece
+-- the rules for the word of an address that is printed piece by piece
 pub ruleset addresses = (extended_on, extended_nothing, append_assoc, append-nil, unique_short)
 
--- the line of a burst bit
+-- the line of a burst bit has at most 20 characters
 pub burst-line-fits : (burst : Bool) → length (burst_line burst) ≤ 20
 burst-line-fits true = omega arith
 burst-line-fits false = omega arith
 
--- the line of bytes
+-- the line of at most three bytes has at most 40 characters
 pub bytes-fit : (name bytes : List ℕ) → length name ≤ 20 → length bytes ≤ 3 → length (bytes_line name bytes) ≤ 40
 bytes-fit name bytes short few = omega (arith, bytes-line-fits name bytes, short, few)
 
 -- the lines of a message
-pub message-line-fits : (found : Found) → length (decimal found.start) ≤ 20 → length (decimal found.stop) ≤ 20
-    → length (header_words (header_of found.frame)) ≤ 200 → length (message_line found) ≤ 250
-message-line-fits found start stop header =
-    let words = simp length-append at header in simp length-append (omega (arith, start, stop, words))
+pub message-line-fits : (before : Before) (found : Found) → length (decimal found.start) ≤ 20 → length (decimal found.stop) ≤ 20
+    → length (header_words (header_of found.frame)) ≤ 200 → length (sending_words found.frame.kind before) ≤ 30
+    → length (message_line before found) ≤ 290
+message-line-fits before found start stop header sending =
+    let words = simp length-append at header in simp length-append (omega (arith, start, stop, words, sending))
 
-pub paragraph-fits : (found : Found) → length (message_line found) ≤ 250 → length found.frame.expansion ≤ 3
-    → length (payload_lines found.frame.kind found.frame.command found.frame.payload) ≤ 6800 → length (paragraph found) ≤ 7200
+pub paragraph-fits : (before : Before) (found : Found) → length (message_line before found) ≤ 290 → length found.frame.expansion ≤ 3
+    → length (payload_lines found.frame.kind found.frame.command found.frame.payload) ≤ 6800 → length (paragraph before found) ≤ 7240
 unfolding paragraph
-paragraph-fits found line few payload =
+paragraph-fits before found line few payload =
     let line = simp length-append at line in
     let expansion = bytes-fit (codes "expansion bytes") found.frame.expansion (omega arith) few in
     simp length-append (omega (arith, line, burst-line-fits found.frame.burst, expansion, payload))
@@ -174,7 +176,7 @@ pub seems-line-fits : (header : Option HeaderParts) → IfSome header (λ header
 seems-line-fits None short = omega arith
 seems-line-fits (Some header) short = let words = simp length-append at short in simp length-append (omega (arith, words))
 
--- a date of at most 32 bytes, and a space
+-- a date of at most 32 bytes, with a space, has at most 33 characters
 pub date-fits : (date : List ℕ) → length date ≤ 32 → length (date_words date) ≤ 33
 date-fits [] short = omega arith
 date-fits (byte ∷ word) short = simp length-append (omega (arith, short))
@@ -187,7 +189,7 @@ pub record Fit (members : List Named) (most : ℕ) : Type 0 where
 pub record Fits (value : Data) (most : ℕ) : Type 0 where
   pub fits : length (compact_text value) ≤ most
 
--- members that come one after the other
+-- if two lists of members are short, they are short together
 pub no-members : Fit [] 0
 no-members = record { fit = omega arith }
 
@@ -201,7 +203,7 @@ members-then fits fit = record { fit = simp (flat_map-append, length-append) (om
 pub fewer : {members : List Named} {most : ℕ} (more : ℕ) → Fit members most → most ≤ more → Fit members more
 fewer more fit few = record { fit = omega (arith, fit.fit, few) }
 
--- values
+-- the values of members are short
 pub number-fits : (number most : ℕ) → length (decimal number) ≤ most → Fits (count number) most
 number-fits number most few = record { fits = few }
 
@@ -231,7 +233,7 @@ burst-fits : (burst : Bool) → Fits (boolean burst) 5
 burst-fits true = record { fits = omega arith }
 burst-fits false = record { fits = omega arith }
 
--- the members of a header
+-- the members of a header are short
 pub ends-fit : (master : MasterId) (address : Address) → length (address_word address) ≤ 21 → Fit (ends_members master address) 270
 ends-fit master address short =
     member-then (codes "master") (master-value-fits master)
@@ -249,7 +251,7 @@ header-value-fits header ends small =
     let all = members-then (member-then (codes "kind") (kind-fits header.kind) ends) (command-fits header.command small) in
     record { fits = omega (arith, object-fits (speaker_members header ++ command_members header.command), all.fit) }
 
--- the names of bits that are set as a list of strings
+-- the names of the bits that are set are short, as a list of strings
 list-of-fits : (names : List (List ℕ))
     → length (compact_text (names_value names)) ≤ length (flat_map (λ name. 44 ∷ [] ++ compact_text (string name)) names) + 2
 list-of-fits [] = omega arith
@@ -265,7 +267,7 @@ names-value-fits byte bits short few =
     let all = names-fit (λ name. 44 ∷ [] ++ compact_text (string name)) 243 string-in-list-fits byte bits short in
     record { fits = omega (arith, list-of-fits (set_names byte bits), all, few) }
 
--- the members of two status bytes
+-- the members of two status bytes have at most 2,435 characters
 response-fits : (command first second : ℕ) → first < 256 → Fit (response_members command first second) 2435
 unfolding is_short_bit
 response-fits command first second small =
@@ -292,14 +294,14 @@ status-data-fits command first second small =
     (either-members-fit (nat_lt first 128) (response_members command first second) (fault_members first) 2435
     (response-fits command first second small) (faults-data-fit first))
 
--- the members of equal readings
+-- if a reading has short members, so has an equal reading
 pub same-reading-fits : (command : ℕ) (bytes : List ℕ) (one other : Reading) (most : ℕ) → one ≡ other
     → length (further_members (reading_members command bytes one)) ≤ most
     → length (further_members (reading_members command bytes other)) ≤ most
 same-reading-fits command bytes one other most same few =
     subst (λ (reading : Reading). length (further_members (reading_members command bytes reading)) ≤ most) same few
 
--- the members of a frame, around those of its payload
+-- the members of a frame are short if those of its payload are
 pub frame-fits : (frame : FrameParts) → length (further_members (ends_members frame.master frame.address)) ≤ 270
     → length frame.expansion ≤ 3 → frame.command < 256
     → length (further_members (payload_members frame.kind frame.command frame.payload)) ≤ 14501
@@ -313,12 +315,12 @@ frame-fits frame ends few small payload =
     (member-then (codes "expansion") (bytes-value-fits frame.expansion 3 few) (command-fits frame.command small)) in
     let all = members-then (members-then speaker middle) payload in omega (arith, all.fit)
 
--- the member of a date of at most 32 bytes
+-- the member of a date of at most 32 bytes is short
 time-fits : (date : List ℕ) → length date ≤ 32 → Fit (time_members date) 222
 time-fits [] short = record { fit = omega arith }
 time-fits (byte ∷ word) short = member-then (codes "time") (text-fits (byte ∷ word) 32 short) no-members
 
--- an object with a type, a date and further members
+-- an object with a type, a date and further members is short if the further members are
 typed-fits : (kind : String) (date : List ℕ) (others : List Named) (most : ℕ) → length (codes kind) ≤ 7 → length date ≤ 32
     → Fit others most → length (compact_text (object_of (named "type" (word kind) ∷ time_members date ++ others))) ≤ 296 + most
 typed-fits kind date others most short dated few =
@@ -344,7 +346,9 @@ pub miss-fits : (date : List ℕ) (place : ℕ) (miss : Miss) (header : Option H
 miss-fits date place miss header short number reason seems =
     let reason : Fit (reason_members miss) 600 = record { fit = reason } in
     let last : Fit (named "seems" (seems_value header) ∷ []) 1000 = record { fit = simp append-nil seems } in
-    let members = member-then (codes "place") (number-fits place 20 number) (members-then reason last) in
+    let members =
+    member-then (codes "start") (number-fits place 20 number)
+    (member-then (codes "place") (number-fits place 20 number) (members-then reason last)) in
     let all = typed-fits "miss" date (miss_members place miss header) _ (omega arith) short members in omega (arith, all)
 
 pub seems-fits : (header : Option HeaderParts) → IfSome header (λ header. length (compact_text (header_value header)) ≤ 900)

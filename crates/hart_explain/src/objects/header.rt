@@ -11,7 +11,7 @@ ghost use Rattle.hart_explain.specs.Text.{extended};
 use crate::hex_text::device_bytes;
 use crate::objects::{push_escaped, push_name, push_quoted_hex};
 use crate::pairs::Pairs;
-use crate::text::{Text, push_number, push_text};
+use crate::text::{Text, push_byte_number, push_text};
 use hart_commands::command_name;
 use hart_frame::FrameKind;
 use hart_values::{Address, MasterId};
@@ -33,7 +33,7 @@ pub(crate) fn push_command(text: &mut Text, command: u8)
     ensures { text.new ≡ extended text.old (further_members (command_members command)) }
 {
     push_text(text, ",\"command\":");
-    push_number(text, u64::from(command));
+    push_byte_number(text, command);
     push_text(text, ",\"command_name\":");
     push_name(text, command_name(command));
 }

@@ -20,6 +20,7 @@ ghost use Rattle.hart_explain.specs.Reading.{reading_of_reply};
 ghost use Rattle.hart_explain.specs.Sighting.{FitsFrom, data_of, json_line, time_members};
 ghost use Rattle.hart_explain.specs.Text.{extended};
 
+use crate::before::Before;
 use crate::objects::header::{push_command, push_ends, push_kind};
 use crate::objects::status::push_status;
 use crate::objects::{push_quoted, push_quoted_hex, push_reading};
@@ -28,17 +29,8 @@ use crate::reading::{read_reply, read_request};
 use crate::text::{Text, push_number, push_text};
 use hart_frame::{FoundView, FrameKind, FrameView, Header, Miss, Sighting};
 
-/// What is known of a message from the messages before it.
-#[derive(Clone, Copy)]
-pub struct Before {
-    /// The start of the last message of the same master, if that message is a request with the same address and command; otherwise
-    /// `None`. A reply answers this request.
-    pub answers: Option<u64>,
-    /// How many times a request has been sent in a row.
-    pub sending: u64,
-}
-
 /// Adds a sighting as a line of JSON. Its places are counted from `first` on. `date` is the date of its place, or empty.
+#[tactic(auto, using(crate::proofs::lemmas::Json::line_of), unfolding(crate::specs::Sighting::json_line))]
 pub fn push_line(
     text: &mut Text,
     pairs: &Pairs,
@@ -79,7 +71,7 @@ fn push_object(
     }
 }
 
-/// Adds the object of a message. Its places are counted from `first` on.
+/// Adds the object of a message. The places in it are counted from `first` on.
 fn push_message(
     text: &mut Text,
     pairs: &Pairs,
@@ -184,7 +176,7 @@ fn push_reply_data(text: &mut Text, pairs: &Pairs, command: u8, payload: &[u8])
     push_reading(text, pairs, command, &payload[2..], reading);
 }
 
-/// Adds the member of what the messages before a message say of it.
+/// Adds the member that is known of a message from earlier messages.
 fn push_before(text: &mut Text, kind: FrameKind, before: Before)
     ensures member { text.new ≡ extended text.old (further_member (before_member kind before)) }
     ensures few { length (further_member (before_member kind before)) ≤ 66 }
@@ -202,7 +194,7 @@ fn push_before(text: &mut Text, kind: FrameKind, before: Before)
     }
 }
 
-/// Adds the object of a missed place. This place and the places in its miss are counted from `first` on.
+/// Adds the object of a miss. The places in it are counted from `first` on.
 fn push_miss(
     text: &mut Text,
     pairs: &Pairs,
@@ -221,6 +213,8 @@ fn push_miss(
 {
     push_text(text, "{\"type\":\"miss\"");
     push_time(text, date);
+    push_text(text, ",\"start\":");
+    push_number(text, first + place as u64);
     push_text(text, ",\"place\":");
     push_number(text, first + place as u64);
     push_reason(text, pairs, first, miss);
@@ -228,7 +222,7 @@ fn push_miss(
     push_text(text, "}");
 }
 
-/// Adds the members of the reason of a miss. Its places are counted from `first` on.
+/// Adds the members of the reason of a miss. The places in it are counted from `first` on.
 fn push_reason(text: &mut Text, pairs: &Pairs, first: u64, miss: Miss)
     requires { NamesPlacesBelow (2 ^ 64 - first) miss }
     ensures members { text.new ≡ extended text.old (further_members (reason_members (miss_in_whole first miss))) }
@@ -267,7 +261,7 @@ fn push_reason(text: &mut Text, pairs: &Pairs, first: u64, miss: Miss)
     }
 }
 
-/// Adds the member that says what a missed message seems to be.
+/// Adds the member that says which message seems to begin at the place of a miss.
 fn push_seems(text: &mut Text, pairs: &Pairs, header: &Option<Header>)
     ensures member { text.new ≡ extended text.old (further_member (named "seems" (seems_value (option_map header_parts header.now)))) }
     ensures few { length (further_member (named "seems" (seems_value (option_map header_parts header.now)))) ≤ 1000 }

@@ -9,11 +9,11 @@ ghost use Rattle.hart_explain.specs.Json.{further_members};
 ghost use Rattle.hart_explain.specs.Status.{names_value, status_members};
 ghost use Rattle.hart_explain.specs.Text.{extended};
 
-use crate::codes::code_name;
 use crate::objects::{push_name, push_quoted, push_quoted_hex};
 use crate::pairs::Pairs;
-use crate::status::{COMM_FAULTS, DEVICE_STATES, SetNames};
+use crate::status::SetNames;
 use crate::text::{Text, push_number, push_text};
+use hart_commands::{COMM_FAULTS, DEVICE_STATES, code_name};
 
 /// Adds the members of the two status bytes of a reply to a command.
 pub(crate) fn push_status(text: &mut Text, pairs: &Pairs, command: u8, first: u8, second: u8)

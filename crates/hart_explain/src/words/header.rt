@@ -7,7 +7,7 @@ ghost use Rattle.hart_explain.specs.Text.{extended};
 
 use crate::hex_text::device_bytes;
 use crate::pairs::Pairs;
-use crate::text::{Text, push_hex, push_number, push_text};
+use crate::text::{Text, push_byte_number, push_hex, push_text};
 use crate::words::push_name_after;
 use hart_commands::command_name;
 use hart_frame::FrameKind;
@@ -31,11 +31,11 @@ pub(crate) fn push_header(
     push_named_number(text, command, command_name(command));
 }
 
-/// Adds a number in decimal, and its name, if it has one.
+/// Adds a number in decimal, and its name after it, if it has one.
 pub(crate) fn push_named_number(text: &mut Text, number: u8, name: Option<&str>)
     ensures { text.new ≡ extended text.old (named_number number (option_map (λ name. name.now) name.entry)) }
 {
-    push_number(text, u64::from(number));
+    push_byte_number(text, number);
     push_name_after(text, name);
 }
 
@@ -57,7 +57,7 @@ fn push_who(text: &mut Text, pairs: &Pairs, kind: FrameKind, master: MasterId, a
     }
 }
 
-/// Adds that a request is one of this master, and goes to a device.
+/// Adds the words that say which master sends a request, up to the word `to`.
 fn push_request_of(text: &mut Text, master: MasterId)
     ensures { text.new ≡ extended text.old (codes "request of " ++ master_words master ++ codes " to ") }
 {
@@ -67,7 +67,7 @@ fn push_request_of(text: &mut Text, master: MasterId)
     }
 }
 
-/// Adds that a reply goes to this master.
+/// Adds the words that say to which master a reply goes.
 fn push_to(text: &mut Text, master: MasterId)
     ensures { text.new ≡ extended text.old (codes " to " ++ master_words master) }
 {
@@ -77,7 +77,7 @@ fn push_to(text: &mut Text, master: MasterId)
     }
 }
 
-/// Adds the words of an address. The words of a broadcast address are `broadcast`.
+/// Adds the words of an address. The words of the broadcast address are the argument `broadcast`.
 #[tactic(auto, using(crate::proofs::lemmas::SightingLengths::addresses))]
 fn push_device(text: &mut Text, pairs: &Pairs, broadcast: &str, address: Address)
     ensures words { text.new ≡ extended text.old (device_words broadcast.now address) }
@@ -86,7 +86,7 @@ fn push_device(text: &mut Text, pairs: &Pairs, broadcast: &str, address: Address
     match address {
         Address::Polling(polling) => {
             push_text(text, "the device at polling address ");
-            push_number(text, u64::from(polling.number()));
+            push_byte_number(text, polling.number());
         }
         Address::Unique(device) => {
             if address.is_broadcast() {

@@ -9,13 +9,14 @@ ghost use Rattle.hart_frame.specs.scan.View.{found_of};
 ghost use Rattle.hart_frame.specs.wire.FrameParts.{IsLongEnough};
 ghost use Rattle.hart_frame.specs.wire.Header.{header_parts};
 ghost use Rattle.hart_frame.specs.declared.wire.kind.FrameKind.TheVariants.{Ack};
-ghost use Rattle.hart_explain.specs.Message.{burst_line, message_line, paragraph, payload_lines};
+ghost use Rattle.hart_explain.specs.Message.{burst_line, message_line, paragraph, payload_lines, sending_words};
 ghost use Rattle.hart_explain.specs.Miss.{byte_value, miss_line, miss_words, missing_words, seems_line};
 ghost use Rattle.hart_explain.specs.Reading.{reading_of_reply};
 ghost use Rattle.hart_explain.specs.Sighting.{FitsFrom, date_words, seen_text};
 ghost use Rattle.hart_explain.specs.Text.{extended};
 ghost use Rattle.hart_explain.specs.Words.{reading_lines};
 
+use crate::before::Before;
 use crate::pairs::Pairs;
 use crate::reading::{read_reply, read_request};
 use crate::text::{Text, push_byte, push_bytes, push_number, push_text};
@@ -24,21 +25,24 @@ use crate::words::status::push_status;
 use crate::words::{push_bytes_line, push_name, push_reading};
 use hart_frame::{FoundView, FrameKind, Header, Miss, Sighting};
 
-/// Adds what is said of a sighting, after the date of its place. Its places are counted from `first` on.
+/// Adds the text of a sighting, after the date of its place. The places of the sighting are counted from `first` on. `before` is what is
+/// known of it from earlier messages.
 pub fn push_sighting(
     text: &mut Text,
     pairs: &Pairs,
     date: &[u8],
     first: u64,
+    before: Before,
     sighting: &Sighting<'_>,
 )
     requires places { FitsFrom first sighting.now }
-    ensures words { text.new ≡ extended text.old (date_words date.now ++ seen_text (moved_seen first (seen_of sighting.now))) }
-    ensures few { length date.now ≤ 32 → length (date_words date.now ++ seen_text (moved_seen first (seen_of sighting.now))) ≤ 16384 }
+    ensures words { text.new ≡ extended text.old (date_words date.now ++ seen_text before (moved_seen first (seen_of sighting.now))) }
+    ensures few { length date.now ≤ 32
+        → length (date_words date.now ++ seen_text before (moved_seen first (seen_of sighting.now))) ≤ 16384 }
 {
     push_date(text, date);
     match sighting {
-        Sighting::Message(found) => push_paragraph(text, pairs, first, found),
+        Sighting::Message(found) => push_paragraph(text, pairs, first, before, found),
         Sighting::Missed {
             place,
             miss,
@@ -60,15 +64,15 @@ fn push_date(text: &mut Text, date: &[u8])
     }
 }
 
-/// Adds the paragraph of a message. Its places are counted from `first` on.
+/// Adds the paragraph of a message. The places in it are counted from `first` on.
 #[tactic(auto, using(crate::proofs::lemmas::Extended::extending), unfolding(crate::specs::Message::paragraph))]
-fn push_paragraph(text: &mut Text, pairs: &Pairs, first: u64, found: &FoundView<'_>)
+fn push_paragraph(text: &mut Text, pairs: &Pairs, first: u64, before: Before, found: &FoundView<'_>)
     requires start { first + found.now.start < 2 ^ 64 }
     requires stop { first + found.now.stop < 2 ^ 64 }
-    ensures words { text.new ≡ extended text.old (paragraph (moved first (found_of found.now))) }
-    ensures few { length (paragraph (moved first (found_of found.now))) ≤ 7200 }
+    ensures words { text.new ≡ extended text.old (paragraph before (moved first (found_of found.now))) }
+    ensures few { length (paragraph before (moved first (found_of found.now))) ≤ 7240 }
 {
-    push_message_line(text, pairs, first, found);
+    push_message_line(text, pairs, first, before, found);
     push_burst_line(text, found.frame.burst());
     push_bytes_line(text, pairs, "expansion bytes", found.frame.expansion());
     push_payload(
@@ -81,11 +85,17 @@ fn push_paragraph(text: &mut Text, pairs: &Pairs, first: u64, found: &FoundView<
 }
 
 /// Adds the line of a message. Its places are counted from `first` on.
-fn push_message_line(text: &mut Text, pairs: &Pairs, first: u64, found: &FoundView<'_>)
+fn push_message_line(
+    text: &mut Text,
+    pairs: &Pairs,
+    first: u64,
+    before: Before,
+    found: &FoundView<'_>,
+)
     requires start { first + found.now.start < 2 ^ 64 }
     requires stop { first + found.now.stop < 2 ^ 64 }
-    ensures words { text.new ≡ extended text.old (message_line (moved first (found_of found.now))) }
-    ensures few { length (message_line (moved first (found_of found.now))) ≤ 250 }
+    ensures words { text.new ≡ extended text.old (message_line before (moved first (found_of found.now))) }
+    ensures few { length (message_line before (moved first (found_of found.now))) ≤ 290 }
 {
     let frame = &found.frame;
     push_number(text, first + found.start);
@@ -100,7 +110,19 @@ fn push_message_line(text: &mut Text, pairs: &Pairs, first: u64, found: &FoundVi
         frame.address(),
         frame.command(),
     );
+    push_sending(text, frame.kind(), before);
     push_byte(text, b'\n');
+}
+
+/// Adds the number of a request's consecutive sendings so far, if the request is sent again.
+fn push_sending(text: &mut Text, kind: FrameKind, before: Before)
+    ensures words { text.new ≡ extended text.old (sending_words kind before) }
+    ensures few { length (sending_words kind before) ≤ 30 }
+{
+    if kind == FrameKind::Stx && before.sending > 1 {
+        push_text(text, ", sending ");
+        push_number(text, before.sending);
+    }
 }
 
 /// Adds the line of a burst bit, if it is set.
@@ -113,6 +135,7 @@ fn push_burst_line(text: &mut Text, burst: bool)
 }
 
 /// Adds the lines of the payload of a message.
+#[tactic(auto, using(std::proofs::lemmas::Grind::common_steps))]
 fn push_payload(text: &mut Text, pairs: &Pairs, kind: FrameKind, command: u8, payload: &[u8])
     requires few { length payload.now ≤ 255 }
     requires long_enough { IsLongEnough kind payload.now }
@@ -143,6 +166,7 @@ fn push_reply(text: &mut Text, pairs: &Pairs, command: u8, payload: &[u8])
 }
 
 /// Adds the lines of the data of a reply, which stand after the two status bytes of its payload.
+#[tactic(auto, using(std::proofs::lemmas::Grind::common_steps))]
 fn push_reply_data(text: &mut Text, pairs: &Pairs, command: u8, payload: &[u8])
     requires few { length payload.now ≤ 255 }
     requires long_enough { 2 ≤ length payload.now }
@@ -153,7 +177,7 @@ fn push_reply_data(text: &mut Text, pairs: &Pairs, command: u8, payload: &[u8])
     push_reading(text, pairs, command, &payload[2..], reading);
 }
 
-/// Adds the line of a missed place. This place and the places in its miss are counted from `first` on.
+/// Adds the line of a miss. The places in it are counted from `first` on.
 fn push_miss_line(text: &mut Text, pairs: &Pairs, first: u64, place: usize, miss: Miss)
     requires place { first + place < 2 ^ 64 }
     requires fits { NamesPlacesBelow (2 ^ 64 - first) miss }
@@ -166,7 +190,7 @@ fn push_miss_line(text: &mut Text, pairs: &Pairs, first: u64, place: usize, miss
     push_byte(text, b'\n');
 }
 
-/// Adds the line that says what a missed message seems to be, if its header was heard.
+/// Adds the line that says which message seems to begin at the place of a miss, if its header was heard.
 fn push_seems_line(text: &mut Text, pairs: &Pairs, header: &Option<Header>)
     ensures words { text.new ≡ extended text.old (seems_line (option_map header_parts header.now)) }
     ensures few { length (seems_line (option_map header_parts header.now)) ≤ 220 }
@@ -185,7 +209,7 @@ fn push_seems_line(text: &mut Text, pairs: &Pairs, header: &Option<Header>)
     }
 }
 
-/// Adds the words of a miss. Its places are counted from `first` on.
+/// Adds the words of a miss. The places in it are counted from `first` on.
 fn push_miss(text: &mut Text, pairs: &Pairs, first: u64, miss: Miss)
     requires { NamesPlacesBelow (2 ^ 64 - first) miss }
     ensures words { text.new ≡ extended text.old (miss_words (miss_in_whole first miss)) }
@@ -241,6 +265,7 @@ fn push_missing(text: &mut Text, count: usize)
 }
 
 /// Adds a byte in hex.
+#[tactic(auto, using(std::proofs::lemmas::Grind::common_steps), unfolding(hex::specs::Hex::encode_with, crate::specs::Words::hex_value))]
 fn push_byte_value(text: &mut Text, pairs: &Pairs, byte: u8)
     ensures { text.new ≡ extended text.old (byte_value byte) }
 {

@@ -6,11 +6,11 @@ ghost use Rattle.std.specs.List.{flat_map};
 ghost use Rattle.hart_explain.specs.Status.{names_words, status_lines};
 ghost use Rattle.hart_explain.specs.Text.{extended};
 
-use crate::codes::code_name;
-use crate::status::{COMM_FAULTS, DEVICE_STATES, SetNames};
+use crate::status::SetNames;
 use crate::text::{Text, push_byte, push_text};
 use crate::words::header::push_named_number;
 use crate::words::push_name;
+use hart_commands::{COMM_FAULTS, DEVICE_STATES, code_name};
 
 /// Adds the lines of the two status bytes of a reply to a command.
 pub(crate) fn push_status(text: &mut Text, command: u8, first: u8, second: u8)

@@ -6,7 +6,7 @@ use Rattle.hart_explain.proofs.lemmas.Json.{object-is}
 use Rattle.hart_explain.proofs.lemmas.Extended.{also}
 use Rattle.hart_explain.proofs.objects.push_fields.Goals as goal
 
--- the object of a first field and of further ones
+-- the text of an object is made of a first field and of further fields
 fields-are : (fields later : List Field) (first : Field) → fields ≡ first ∷ later
     → compact_text (object_of (map field_member fields))
     ≡ 123 ∷ (member_words (field_member first) ++ (further_members (map field_member later) ++ 125 ∷ []))

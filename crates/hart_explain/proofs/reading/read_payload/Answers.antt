@@ -6,7 +6,7 @@ use Rattle.hart_commands.specs.ReplyData.{reply_reading}
 use Rattle.hart_explain.specs.Reading.{nothing_found, reading_of_reply, replied}
 use Rattle.hart_explain.proofs.reading.read_payload.Goals as goal
 
--- what the data of a reply mean depends on the length and the first byte of its payload
+-- the reading of a reply's payload, by cases of its length and its first byte
 reading-is : (command : ℕ) (payload : List ℕ) → reading_of_reply command payload ≡ (if nat_lt (length payload) 2 then nothing_found None
     else if nat_lt 127 (get_or payload 0 0) then (record { fields = []; ignored = drop 2 payload; problem = None })
     else replied command (drop 2 payload) (reply_reading command payload))

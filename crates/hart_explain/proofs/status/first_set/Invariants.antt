@@ -1,5 +1,6 @@
 use Rattle.std.proofs.Common.{◌≡◌, length, map}
-use Rattle.hart_explain.specs.Status.{seen_bit, set_names}
+use Rattle.hart_commands.specs.StatusBits.{seen_bit}
+use Rattle.hart_explain.specs.Status.{set_names}
 use Rattle.hart_explain.proofs.status.first_set.Given as goal
 
 abbrev pub invariant-loop-bit : goal.invariant-loop-bit

@@ -3,7 +3,7 @@ use Rattle.hart_explain.specs.Words.{bytes_line, hex_value, said_line}
 use Rattle.hart_explain.proofs.lemmas.Extended.{extending}
 use Rattle.hart_explain.proofs.words.push_not_read.Goals as goal
 
--- the line of at least one byte
+-- if there is at least one byte, the line of the bytes is written
 some-line : (name bytes : List ℕ) → false ≡ (length bytes == 0) → bytes_line name bytes ≡ said_line name (hex_value bytes)
 some-line name [] some = cc
 some-line name (byte ∷ bytes) some = refl

@@ -20,11 +20,15 @@ returns-clause-object c =
     let time = time_members c.args.date.now in
     let seems = named "seems" (seems_value header) ∷ [] in
     let rest = members-on _ _ _ (reason_members miss) seems c.push_reason.ensures.members (last _ _ _ c.push_seems.ensures.member) in
-    let place_is = also _ _ _ _ _ c.push_text-2.ensures (last _ _ _ c.push_number.ensures.number) in
-    let own = members-on _ _ _ (named "place" (count place) ∷ []) (reason_members miss ++ seems) place_is rest in
+    let start_is = also _ _ _ _ _ c.push_text-2.ensures (last _ _ _ c.push_number.ensures.number) in
+    let place_is = also _ _ _ _ _ c.push_text-3.ensures (last _ _ _ c.push_number-2.ensures.number) in
+    let placed = named "place" (count place) ∷ [] in
+    let own =
+    members-on _ _ _ (named "start" (count place) ∷ []) (placed ++ reason_members miss ++ seems) start_is
+    (members-on _ _ _ placed (reason_members miss ++ seems) place_is rest) in
     let members = members-on _ _ _ time (miss_members place miss header) c.push_time.ensures own in
     rw (object-is (named "type" (word "miss")) (time ++ miss_members place miss header))
-    (also _ _ _ _ _ (also _ _ _ _ _ c.push_text.ensures members) c.push_text-3.ensures)
+    (also _ _ _ _ _ (also _ _ _ _ _ c.push_text.ensures members) c.push_text-4.ensures)
 
 pub returns-clause-few : goal.returns-clause-few
 returns-clause-few c = λ short.

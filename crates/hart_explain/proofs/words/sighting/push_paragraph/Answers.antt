@@ -7,4 +7,4 @@ pub returns-clause-few : goal.returns-clause-few
 returns-clause-few c =
     let few = rw c.expansion.ensures.expansion at c.expansion.ensures.fits in
     let payload = rw (c.kind.ensures, c.command.ensures, c.payload.ensures.payload) at c.push_payload.ensures.few in
-    paragraph-fits (moved c.args.first (found_of c.args.found.now)) c.push_message_line.ensures.few few payload
+    paragraph-fits c.args.before (moved c.args.first (found_of c.args.found.now)) c.push_message_line.ensures.few few payload

@@ -1,0 +1,11 @@
+//! What is known of a message from earlier messages.
+
+/// What is known of a message from earlier messages.
+#[derive(Clone, Copy)]
+pub struct Before {
+    /// For a reply, the start of the request that it answers: the last message of the same master, if that is a request with the reply's
+    /// address and command. Otherwise, and for a request, `None`.
+    pub answers: Option<u64>,
+    /// For a request, how many times in a row it has been sent. Replies that leave it open may stand between.
+    pub sending: u64,
+}
