@@ -1,0 +1,3 @@
+-- Lemmas, each file named after its subject.
+pub mod Names
+pub mod Texts

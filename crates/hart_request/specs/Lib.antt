@@ -1,0 +1,7 @@
+pub mod RequestWords
+pub mod Reason
+pub mod FaultText
+pub mod Values
+pub mod Fields
+pub mod Given
+pub mod Request
