@@ -7,7 +7,6 @@ pub mod dump
 pub mod explain
 pub mod input
 pub mod master
-pub mod request
 pub mod serve
 pub mod session
 pub mod text

@@ -6,10 +6,10 @@ use Rattle.hart_line.specs.declared.fault.LineFault.{LineFault}
 use Rattle.hart_line.specs.declared.fault.LineFault.TheVariants as line_faults
 use Rattle.hart_cli.specs.declared.fault.CliFault.{CliFault}
 use Rattle.hart_cli.specs.declared.fault.CliFault.TheVariants.{Read, Write, TooLong, BadHex, Line, Image, Memory, BadWord, BadField}
-use Rattle.hart_cli.specs.request.FaultText.{reason_text}
+use Rattle.hart_request.specs.FaultText.{reason_text}
 
--- The text of a fault, without the reason why a word of `hart request` is bad. The place of bad hex and the number of a bad word are
--- in decimal.
+-- The text of a fault, without the reason why a word of `hart request` is bad. The place of bad hex and the number of a bad word are in
+-- decimal.
 abbrev pub text_before_reason : CliFault → List ℕ
 text_before_reason Read = codes "read fault"
 text_before_reason Write = codes "write fault"

@@ -1,4 +1,4 @@
--- The device of a call, and the word of the image from which it starts (implementation choice).
+-- The device of a call, and the word of the image from which the device starts (implementation choice).
 use Rattle.std.specs.Prelude.{◌≡◌, ℕ, ◌%◌, ◌/◌, ◌<◌, ◌⊎◌, false, List, length, take, slice_index, Option, None, Some, Result, Ok, Err}
 use Rattle.std.specs.List.{AllPass}
 use Rattle.hex.specs.Hex.{decode_of, is_hex_digit}
@@ -25,29 +25,31 @@ IsDeviceOf (Some word) device =
     (device.identity ≡ bench_identity) × (device.cold_start ≡ for_both false)
     × (image : List ℕ) × IsImageWord word image × IsImageOf device image
 
--- The place of bad hex in the word of an image. If the number of bytes of the word is odd, the place is the word's length. Otherwise it is
+-- The place of bad hex in the word of an image. If the word has an odd number of bytes, this place is the word's length. Otherwise it is
 -- the place of the first byte that is no hex digit.
 pub data IsBadHexWord (word : List ℕ) : ℕ → Type 0 where
   odd : length word % 2 ≡ 1 → IsBadHexWord word (length word)
   no_digit : (place : ℕ) → length word % 2 ≡ 0 → place < length word → is_hex_digit (slice_index word place) ≡ false
       → AllPass is_hex_digit (take place word) → IsBadHexWord word place
 
--- The fault of an image is bad hex in its word or, if the word is good hex, the fault of the bytes that the word encodes.
+-- The fault of an image. If the image's word is bad hex, the fault is the bad hex. Otherwise it is the fault of the bytes that the word
+-- encodes.
 abbrev pub HasImageFault : Option (List ℕ) → CliFault → Type 0
 HasImageFault (Some word) (BadHex place) = IsBadHexWord word place
 HasImageFault (Some word) (Image fault) = (image : List ℕ) × IsImageWord word image × IsImageFault image fault
 HasImageFault _ _ = ⊥
 
--- Room for the bytes of an image was refused: one byte for every two bytes of the image's word. This is no fault of the image.
+-- Memory for the bytes of an image was refused. One byte is needed for every two bytes of the image's word. A refusal of memory is no fault
+-- of the image.
 abbrev pub LacksImageRoom : Option (List ℕ) → CliFault → Type 0
 LacksImageRoom (Some word) (Memory none) = none.items ≡ length word / 2
 LacksImageRoom _ _ = ⊥
 
--- A call has no device because its image has this fault, or because room for the image was refused.
+-- The reason why a call has no device: a fault of its image, or refused memory for the bytes of the image.
 abbrev pub HasNoDevice : Option (List ℕ) → CliFault → Type 0
 HasNoDevice image fault = HasImageFault image fault ⊎ LacksImageRoom image fault
 
--- What a call may do with a reader and a writer, and what it may return.
+-- A relation between the reader and the writer, each before and after a call, and what the call returned.
 abbrev pub OutcomeRelation : Type 1
 OutcomeRelation = Stream → Stream → Stream → Stream → Result (Unit {0}) CliFault → Type 0
 
@@ -60,14 +62,14 @@ pub record GivesNoDevice (image : Option (List ℕ)) (reader reader_after writer
   pub unread : reader_after ≡ reader
   pub unwritten : writer_after ≡ writer
 
--- A call had a device, and `Did` holds of this device.
+-- A device was made for the call, and `Did` is true of this device.
 pub record WentOn (image : Option (List ℕ)) (Did : DeviceState → Type 0) : Type 0 where
   pub device : DeviceState
   pub is_device : IsDeviceOf image device
   pub did : Did device
 
--- If a call had no device, it returned the reason, and touched neither the reader nor the writer. If it had a device, it had one of the
--- outcomes for that device.
+-- If a call had no device, the call returned the reason, and touched neither the reader nor the writer. If the call had a device, `Outcome`
+-- says for this device what the call did.
 abbrev pub OutcomeWith : (DeviceState → OutcomeRelation) → Option (List ℕ) → OutcomeRelation
 OutcomeWith Outcome image reader reader_after writer writer_after result =
     GivesNoDevice image reader reader_after writer writer_after result

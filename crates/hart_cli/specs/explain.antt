@@ -1,10 +1,7 @@
 -- `hart explain`.
-pub mod Before
 pub mod Explanation
 pub mod Explain
-pub mod Gaps
 pub mod Dumped
 pub mod Told
-pub mod Dates
-pub mod LastMessages
-pub mod Telling
+pub mod Page
+pub mod Printer

@@ -1,3 +1,3 @@
--- The program: which call the words make, and how it ends.
+-- The program: the call that the words make, and how the program ends.
 pub mod CommandLine
 pub mod Program

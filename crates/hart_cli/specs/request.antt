@@ -1,8 +1,2 @@
 -- `hart request`.
-pub mod RequestWords
-pub mod Reason
-pub mod FaultText
-pub mod Values
-pub mod Fields
-pub mod Given
 pub mod Request

@@ -1,18 +1,18 @@
-//! Why a call of the command line ended early. Functions return the texts and numbers, because attributes of `thiserror` have no contracts.
+//! Why a call of the command line ended early. Functions, not attributes of `thiserror`, define the texts, because attributes have no
+//! contracts.
 
 ghost use Rattle.std.specs.Prelude.{◌≡◌, ◌++◌, ◌≤◌, [], length, Some};
 ghost use Rattle.hart_line.specs.FaultText.{joined};
 ghost use Rattle.hart_cli.specs.FaultNumbers.{cli_fault_number};
 ghost use Rattle.hart_cli.specs.FaultText.{fault_line, fault_text, reason_of, text_before_reason};
-ghost use Rattle.hart_cli.specs.request.Reason.{reasoned};
+ghost use Rattle.hart_request.specs.Reason.{reasoned};
 ghost use Rattle.hart_cli.specs.declared.fault.CliFault.TheVariants.{BadField as FaultOfField, Image, Memory, Write};
 
-use crate::calls::request::fault::BadField;
-use crate::calls::request::reason::Reason;
 use crate::stream::Failed;
 use arrayvec::ArrayString;
 use hart_device::DeviceFault;
 use hart_line::{FaultText, LineFault, NoRoom};
+use hart_request::{BadField, Reason};
 use itoa::Buffer;
 use std::fmt;
 use thiserror::Error;
@@ -24,21 +24,21 @@ pub enum CliFault {
     Read,
     /// The writer failed.
     Write,
-    /// The input is longer than its limit. The limit is 2^64 - 1 bytes for `explain` and `serve`, 2^64 - 2 for a raw input, and
+    /// The input is longer than its limit. The limit is 2^64 - 1 bytes for `explain`, `serve` and `master`, 2^64 - 2 for a raw input, and
     /// [`INPUT_LIMIT`](crate::INPUT_LIMIT) for all other inputs.
     TooLong,
-    /// The input has bad hex at this place, counted from 0. No separator and no item begins at this place, and in an input of `explain` no
-    /// mark. In an image word of odd length, the place is the word's length. In any other image word, it is the place of the first byte
-    /// that is no hex digit.
+    /// The input has bad hex at this place, counted from 0. No separator and no item begins there. In an input of `explain`, no silence and
+    /// no date begins there either. In an image word of odd length, the place is the word's length. In any other image word, it is the
+    /// place of the first byte that is no hex digit.
     BadHex { place: usize },
     /// A line of the script is bad, or a leg of the script has undetected damage.
     Line(LineFault),
     /// No device can start from this image.
     Image(DeviceFault),
-    /// Memory was refused, for this number of items.
+    /// Memory was refused, for this number of bytes or other elements.
     Memory(NoRoom),
-    /// This word of `hart encode` or `hart request` is bad: 1 is WHO, 2 ADDRESS, 3 COMMAND and 4 DATA. `hart request` has no DATA. Of
-    /// `hart master`, 1 is WHO. In a line of `hart master`, words are counted from 1.
+    /// This word of `hart encode` or `hart request` is bad: 1 is WHO, 2 ADDRESS, 3 COMMAND and 4 DATA. `hart request` has no DATA. On the
+    /// command line of `hart master`, 1 is WHO; in a line that it reads, the words are counted from 1.
     BadWord { number: u8 },
     /// The words of a request do not give the fields of its command.
     BadField(BadField),
@@ -64,8 +64,8 @@ impl CliFault {
         }
     }
 
-    /// Returns the text of the fault and a line feed. The function allocates nothing, so that it can report refused memory. It pushes the
-    /// text part by part, since no contract says that `write!` succeeds.
+    /// Returns the text of the fault and a line feed. The function allocates nothing, so that it can report refused memory. The function
+    /// pushes the text part by part, since no contract says that `write!` succeeds.
     pub fn text_line(self) -> ArrayString<LONGEST_LINE>
         ensures { result.bytes ≡ fault_line self }
     {
@@ -174,7 +174,7 @@ impl From<NoRoom> for CliFault {
 impl From<DeviceFault> for CliFault {
     ghost from_gives = { λ fault e. e ≡ Image fault };
 
-    /// Reports a device's fault as a fault of its image, since the program makes no device from other parts.
+    /// Reports a device's fault as a fault of its image, since only making a device from an image can fail.
     fn from(fault: DeviceFault) -> CliFault {
         CliFault::Image(fault)
     }

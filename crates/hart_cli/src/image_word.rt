@@ -1,4 +1,4 @@
-//! The device of a call, and the word of the image that the device starts from.
+//! The device of a call, and the image from which the device starts, as a word of hex.
 ghost use Rattle.std.specs.Prelude.{◌≡◌, ℕ, List, Option, Some, IfErr, IfOk, replicate};
 ghost use Rattle.std.specs.Option.{option_map};
 ghost use Rattle.hart_device.specs.Device.{DeviceState};
@@ -13,7 +13,7 @@ use hex::FromHexError;
 use std::alloc::Global;
 use std::marker::Model;
 
-/// The word of an image, if a call was given an image. A call checks it before it reads anything.
+/// The image of a call as a word of hex, if the call was given an image. A call checks the word before it reads anything.
 #[derive(Drop)]
 pub struct ImageWord<'a> {
     /// The image in hex, two digits for each byte, or `None` if the call was given no image.
@@ -29,14 +29,14 @@ impl<'a> Model for ImageWord<'a> {
     ghost view = { λ image. option_map (λ word. word.now) image.word };
 }
 
-/// Returns the bench device: a new device if there is no image, and otherwise a device in the state of the image. Its cold start bits are
-/// clear.
+/// Returns the bench device. Without an image, the device is new. With an image, the device has the state of the image, and its cold start
+/// bits are clear.
 ///
 /// # Errors
 ///
-/// [`CliFault::BadHex`] at the word's length if that length is odd, and otherwise at the first byte that is no hex digit. If the word is
-/// good hex, but no device can start from the image, [`CliFault::Image`]. [`CliFault::Memory`] if room for the bytes of the image is
-/// refused.
+/// [`CliFault::BadHex`] at the word's length if that length is odd, and otherwise at the first byte that is no hex digit.
+/// [`CliFault::Image`] if the word is good hex, but no device can start from the image. [`CliFault::Memory`] if memory for the bytes of the
+/// image is refused.
 pub fn device_of(alloc: Global, image: Option<&str>) -> Result<Device<ImageRegisters>, CliFault>
     ensures device { IfOk result (IsDeviceOf (option_map (λ word. word.now) image.entry)) }
     ensures fault { IfErr result (HasNoDevice (option_map (λ word. word.now) image.entry)) }
@@ -47,7 +47,7 @@ pub fn device_of(alloc: Global, image: Option<&str>) -> Result<Device<ImageRegis
     device_from(alloc, word.as_bytes())
 }
 
-/// Returns the bench device in the state of the image that a word encodes.
+/// Returns the bench device in the state of the image that a word encodes, or the reason why there is no such device.
 fn device_from(alloc: Global, word: &[u8]) -> Result<Device<ImageRegisters>, CliFault>
     ensures device { IfOk result (IsDeviceOf (Some word.now)) }
     ensures fault { IfErr result (HasNoDevice (Some word.now)) }
@@ -57,7 +57,7 @@ fn device_from(alloc: Global, word: &[u8]) -> Result<Device<ImageRegisters>, Cli
     Ok(device)
 }
 
-/// Returns the bytes that a word encodes in hex.
+/// Returns the bytes that a word encodes in hex, or the reason why there are no such bytes.
 fn decoded(alloc: Global, word: &[u8]) -> Result<Vec<u8>, CliFault>
     ensures bytes { IfOk result (λ bytes. IsImageWord word.now bytes.items) }
     ensures fault { IfErr result (HasNoDevice (Some word.now)) }

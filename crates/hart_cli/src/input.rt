@@ -10,28 +10,28 @@ use std::alloc::Global;
 
 pub mod ahead;
 
-/// The greatest number of bytes that an input may have, except for `explain` and `serve`.
+/// The greatest number of bytes that an input may have, except for `explain`, `serve` and `master`.
 pub const INPUT_LIMIT: usize = 1_048_576;
 
-/// The room for an input: all bytes that it may have, and one space that makes its last item whole.
+/// The room for an input: all bytes that the input may have, and one space that completes the last item.
 const INPUT_ROOM: usize = INPUT_LIMIT + 1;
 
 /// The greatest number of bytes that one read may return.
 pub const PORTION_LEN: usize = 16_384;
 
-/// How an input came to its end.
+/// How the reading of an input ended.
 #[derive(Clone, Copy, PartialEq, Eq)]
 pub enum InputEnd {
     /// A read returned 0 bytes, because no bytes were left.
     Ended,
     /// A read failed.
     ReadFailed,
-    /// A further byte came after the last byte within the limit. The limit is [`INPUT_LIMIT`] except for `explain` and `serve`.
+    /// A further byte came after the last byte within the limit. The limit is [`INPUT_LIMIT`], except for `explain`, `serve` and `master`.
     TooLong,
 }
 
 impl InputEnd {
-    /// Returns the fault of this end, or `None` if only the content of the input decides whether there is a fault.
+    /// Returns the fault of this end, or `None` if the end itself is no fault.
     pub fn fault(self) -> Option<CliFault>
         ensures { result ≡ fault_of_end self }
     {
@@ -46,7 +46,7 @@ impl InputEnd {
 /// The result of one read: how many bytes at the beginning of the buffer are within the limit, and how the input ended, if it did.
 #[derive(Clone, Copy)]
 pub struct Portion {
-    /// The number of bytes that are still within the limit.
+    /// The number of bytes of this read that are within the limit.
     pub len: usize,
     /// Why no more bytes follow, or `None` if more may follow.
     pub end: Option<InputEnd>,
@@ -91,7 +91,7 @@ fn read_into<R: Source>(reader: &mut R, text: &mut Filling<u8>) -> InputEnd
     }
 }
 
-/// Reads once. The read returns at most one byte more than `room`, the number of bytes that are left within an input's limit. The result
+/// Reads once. `room` is the number of bytes that are left within the input's limit. The read returns at most one byte more, and the result
 /// says how many of the bytes are within the limit.
 pub fn read_portion<R: Source>(reader: &mut R, buffer: &mut [u8], room: usize) -> Portion
     requires some { 0 < length buffer.old }

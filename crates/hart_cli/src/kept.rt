@@ -9,13 +9,13 @@ use hart_explain::{SIGHTING_LEN, TEXT_LEN, Text};
 /// The greatest number of bytes of text that are kept.
 pub const KEPT_LEN: usize = TEXT_LEN;
 
-/// The greatest number of bytes in a piece of text.
-const PIECE_LEN: usize = SIGHTING_LEN;
+/// The greatest number of bytes that are appended to the kept text at once.
+pub const PIECE_LEN: usize = SIGHTING_LEN;
 
 /// Text that is not yet written.
 pub type Kept = Text;
 
-/// Writes and drops the kept text if it leaves no room for one more piece.
+/// Writes and drops the kept text if it leaves room for fewer than [`PIECE_LEN`] bytes.
 ///
 /// # Errors
 ///

@@ -1,11 +1,11 @@
 //! The calls of the command line `hart`, over any reader and any writer.
 //!
-//! Each subcommand is a call. [`dump`] lists the messages in what was heard, and [`explain`] says in words what they mean. [`answer`] gives
-//! the bench device's reply to one delivery. [`serve`] gives its replies to many deliveries, one line for each line that it reads.
-//! [`master`] is its counterpart: a master that answers line after line.
-//! [`simulate`] carries out a script. [`encode_text`] writes a message to send, and [`request`] makes such a message from named fields.
-//! [`program`] makes the call that its words name, and returns the exit status. Calls read from a [`Source`] and write to a [`Sink`];
-//! [`Plain`] makes them from readers and writers of the standard library. A call that cannot do all of its work returns a [`CliFault`].
+//! Each subcommand is a call. [`dump`] lists the messages in what was heard, and [`explain`] says what they mean, in words or as JSON.
+//! [`answer`] gives the bench device's reply to one delivery. [`serve`] gives its replies to many deliveries, one line for each line that
+//! it reads. [`master`] is the counterpart of `serve`: a master that answers each line that it reads. [`simulate`] carries out a script.
+//! [`encode_text`] writes a message to send, and [`request`] makes such a message from named fields. [`program`] makes the call that its
+//! words name, and returns the exit status. Calls read from a [`Source`] and write to a [`Sink`]; [`Plain`] makes them from readers and
+//! writers of the standard library. A call that cannot do all of its work returns a [`CliFault`].
 //!
 //! ```rust
 //! let mut reader = Plain::new(b"FF FF 02 80 00 00 82".as_slice());
@@ -24,17 +24,15 @@
 //! - `fault`: why a call ended early.
 //! - `image_word`: the device with which a call starts.
 //! - `input`: the reading of an input.
-//! - `held`: what was read and may still decide something.
 //! - `output`, `kept`: the writing of a text, either whole or piece by piece.
-//! - `session`: calls that answer line after line.
+//! - `session`: calls that answer each line that they read.
 //! - `stream`: readers and writers as the calls see them.
-//! - `text`: hex items, and lines of words and bytes.
+//! - `text`: the characters of an input, and lines of words and bytes.
 //! - `calls`: a module for each call.
 #![tactic(auto)]
 
 mod calls;
 mod fault;
-mod held;
 mod image_word;
 mod input;
 mod kept;
@@ -47,22 +45,25 @@ pub use calls::answer::{answer, one_answer};
 pub use calls::dump::{dump, one_dump};
 pub use calls::encode::{encode_text, one_encoding};
 pub use calls::explain::laws::{
-    every_start_outside_messages_has_one_line, explanations_grow,
-    explanations_name_the_messages_of_dump, hints_of_explanations_are_right, json_lines_grow,
-    json_objects_are_lines, json_tells_what_explain_tells,
+    explanations_grow, explanations_name_the_messages_of_dump, json_tells_what_explain_tells,
 };
-pub use calls::explain::{explain, explain_json, explain_raw, explain_raw_json, one_explanation};
+pub use calls::explain::printer::Style;
+pub use calls::explain::{explain, one_explanation};
 pub use calls::master::{MasterSettings, MasterWords, master, master_by_words, one_session};
 pub use calls::program::laws::{one_call, words_are_calls};
 pub use calls::program::{DONE, FAULT, NO_CALL, program};
-pub use calls::request::fault::{BadField, FieldFault};
-pub use calls::request::laws::{
-    fields_of_requests_are_those_given, shown_values_are_accepted, values_are_shown_as_given,
-};
 pub use calls::request::{RequestWords, one_request, request};
 pub use calls::serve::{one_service, serve};
 pub use calls::sim::{one_simulation, simulate};
 pub use fault::CliFault;
+pub use hart_listen::laws::{
+    every_start_outside_messages_has_one_line, hints_of_explanations_are_right,
+    json_objects_are_lines,
+};
+pub use hart_request::laws::{
+    fields_of_requests_are_those_given, shown_values_are_accepted, values_are_shown_as_given,
+};
+pub use hart_request::{BadField, FieldFault};
 pub use image_word::one_device;
 pub use input::INPUT_LIMIT;
 pub use stream::plain::Plain;

@@ -16,13 +16,13 @@ mod server;
 /// The answer to a line. The longest answer has the word `send`, a space, and the line of a message of 287 bytes.
 pub type SaidLine = ByteList<866>;
 
-/// Answers lines, for instance as a device or as a master on a HART line.
+/// Answers lines of text, as the device of `hart serve` and the master of `hart master` do.
 pub trait Station {
-    // How the station answers a line: the station before, what it reads of the line, the station afterwards, and the answer. Nothing is
-    // read of a line that is too long.
+    // The relation between the station before a line, what it reads of the line, the station afterwards, and its answer. The station reads
+    // nothing of a line that is too long.
     ghost serves: { Self → Option (List ℕ) → Self → List ℕ → Type 0 };
 
-    /// Answers a line, which is passed with one space after it.
+    /// Answers a line. `text` is the line and one more space.
     fn answer(&mut self, text: &[u8]) -> SaidLine
         requires short { length text.now ≤ input_limit + 1 }
         ensures { (line : List ℕ) → text.now ≡ line ++ 32 ∷ [] → serves self.old (Some line) self.new result };
@@ -31,13 +31,13 @@ pub trait Station {
     ghost too_long: { (station : Self) → serves station None station (bad_line (codes "too long")) };
 }
 
-/// Serves the lines of an input. All memory is allocated before the first line is read.
+/// Reads the lines of an input, and writes the station's answer to each. All memory is allocated before the first line is read.
 ///
 /// # Errors
 ///
-/// [`CliFault::Memory`] if memory for a line is refused. Then nothing is read. After that [`CliFault::Read`], and [`CliFault::TooLong`] at
-/// an input of more than 2^64 - 1 bytes: the answers to the whole lines before the fault are written. If a write fails, the fault is
-/// [`CliFault::Write`], and a prefix of the answers to what was read by then is written.
+/// [`CliFault::Memory`] if memory for a line is refused; then nothing is read. [`CliFault::Read`] if a read fails, and
+/// [`CliFault::TooLong`] if the input has more than 2^64 - 1 bytes; then the answers to all whole lines before the fault are written.
+/// [`CliFault::Write`] if a write fails; then only a prefix of the answers to the lines read so far is written.
 pub fn serve_lines<S: Station + Drop, R: Source, W: Sink>(
     alloc: Global,
     station: S,
@@ -57,7 +57,7 @@ pub fn serve_lines<S: Station + Drop, R: Source, W: Sink>(
     }
 }
 
-/// Reads an input until it comes to its end, and serves its whole lines.
+/// Reads an input to its end, and writes the station's answers to its whole lines.
 ///
 /// # Errors
 ///

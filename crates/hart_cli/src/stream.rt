@@ -1,5 +1,5 @@
-//! Readers and writers as the command line sees them: what they give and take, and when they fail. No contract counts the reads from a
-//! file or pipe, or sees the order of reads and writes.
+//! Readers and writers as the calls use them: which bytes they give or take, and when they fail. No contract says how often a call reads
+//! from a file or pipe, or in which order it reads and writes.
 
 ghost use Rattle.std.specs.Prelude.{◌<◌, IfOk, length};
 ghost use Rattle.std.specs.Io.{ReadsAtMost, WritesAtMost};
@@ -14,10 +14,11 @@ pub struct Failed;
 
 /// Something that bytes are read from.
 pub trait Source {
-    // The bytes that are left, if they are known, and how often a read has failed.
+    // The bytes that are left to read, if they are known, and how often a read has failed.
     ghost stream: { Self → Stream };
 
-    /// Puts the next bytes at the beginning of the buffer, and returns their number. If the buffer has room, 0 means the end.
+    /// Puts the next bytes at the beginning of the buffer, and returns their number. If the buffer has at least one byte, 0 means that no
+    /// bytes are left.
     ///
     /// # Errors
     ///
@@ -34,7 +35,7 @@ pub trait Sink {
     // The bytes that were written, if they are known, and how often a write has failed.
     ghost stream: { Self → Stream };
 
-    /// Writes a prefix of the bytes, and returns its length: at least 1, unless there are no bytes.
+    /// Writes a prefix of the bytes, and returns the length of the prefix. This length is at least 1, unless there are no bytes.
     ///
     /// # Errors
     ///

@@ -1,4 +1,4 @@
--- The numbers of a call that words make.
+-- The numbers of a call are in range, if words make this call.
 use Rattle.std.proofs.Common.{◌≡◌, ◌≤◌, ◌<◌, ℕ, arith, refl, List, [], None, Option, option_map, Bool, codes, Some, unwrap_or}
 use Rattle.std.proofs.Common.{if◌then◌else◌}
 use Rattle.std.proofs.lemmas.Bool.Decides.{nat_tests}
@@ -8,46 +8,24 @@ use Rattle.std.specs.Str.{bytes_eq}
 use Rattle.clap.specs.Words.{Row, Text, all_of, first_of}
 use Rattle.hart_frame.specs.wire.Message.{IsPreambleCount}
 use Rattle.hart_cli.specs.declared.calls.program.command_line.Call.{Call}
-use Rattle.hart_cli.specs.declared.calls.program.command_line.Call.TheVariants.{Answer, Dump, Encode, Explain, ExplainJson, ExplainRaw}
-use Rattle.hart_cli.specs.declared.calls.program.command_line.Call.TheVariants.{ExplainRawJson, Master, Request, Serve, Sim}
+use Rattle.hart_cli.specs.declared.calls.program.command_line.Call.TheVariants.{Answer, Dump, Encode, Master, Request}
+use Rattle.hart_cli.specs.declared.calls.program.command_line.Call.TheVariants.{Serve, Sim}
 use Rattle.hart_cli.specs.encode.MessageWords.{MessageWords}
 use Rattle.hart_cli.specs.master.MasterWords.{AreInRange, MasterWords}
-use Rattle.hart_cli.specs.request.RequestWords.{RequestWords}
+use Rattle.hart_request.specs.RequestWords.{RequestWords}
 use Rattle.hart_cli.specs.program.CommandLine.{call_of, explain_call, master_words, master_words_of, message_words, number_of}
 use Rattle.hart_cli.specs.program.CommandLine.{optional_number, preambles_of, request_words, request_words_of, words_of}
 use Rattle.hart_cli.specs.program.Program.{HasNumbersInRange}
 
--- the words of `encode` have a number of preamble bytes that a sender may use
+-- the words of `encode` have 5 to 20 preamble bytes
 words_counted : (word : Option Text) (who address command : Option Text) (payload : Text) (words : MessageWords)
     → message_words (option_and_then preambles_of word) who address command payload ≡ Some words → IsPreambleCount words.preambles
 words_counted word who address command payload words h = grind (arith, common_steps, nat_tests)
 
--- the words of `request` have a number of preamble bytes that a sender may use
+-- the words of `request` have 5 to 20 preamble bytes
 request_counted : (word : Option Text) (who address command : Option Text) (fields : List Text) (words : RequestWords)
     → request_words (option_and_then preambles_of word) who address command fields ≡ Some words → IsPreambleCount words.preambles
 request_counted word who address command fields words h = grind (arith, common_steps, nat_tests)
-
--- a call of `encode` has the words that the matches give to `encode`
-words_called : (answer dump explain serve master sim encode request : Bool) (image raw json : Option Text) (given : Option MessageWords)
-    (named : Option RequestWords) (asker : Option MasterWords) (words : MessageWords)
-    → (if answer then Some (Answer image) else if dump then Some Dump else if explain then Some (explain_call raw json)
-    else if serve then Some (Serve image)
-    else if master then option_map (λ w. Master w) asker
-    else if sim then Some (Sim image)
-    else if encode then option_map (λ w. Encode w) given
-    else if request then option_map (λ w. Request w) named else None) ≡ Some (Encode words) → given ≡ Some words
-words_called answer dump explain serve master sim encode request image raw json given named asker words h = grind (arith, common_steps)
-
--- a call of `request` has the words that the matches give to `request`
-request_called : (answer dump explain serve master sim encode request : Bool) (image raw json : Option Text) (given : Option MessageWords)
-    (named : Option RequestWords) (asker : Option MasterWords) (words : RequestWords)
-    → (if answer then Some (Answer image) else if dump then Some Dump else if explain then Some (explain_call raw json)
-    else if serve then Some (Serve image)
-    else if master then option_map (λ w. Master w) asker
-    else if sim then Some (Sim image)
-    else if encode then option_map (λ w. Encode w) given
-    else if request then option_map (λ w. Request w) named else None) ≡ Some (Request words) → named ≡ Some words
-request_called answer dump explain serve master sim encode request image raw json given named asker words h = grind (arith, common_steps)
 
 -- a number that is read lies within its bounds
 read_number : (least most : ℕ) (word : Text) (number : ℕ) → number_of least most word ≡ Some number → (least ≤ number) × (number ≤ most)
@@ -91,57 +69,56 @@ master_counted (Some who) retries limit preambles words h =
     numbers_counted who (option_and_then (number_of 0 15) retries) (optional_number 1 255 limit) (option_and_then preambles_of preambles)
     words (read_word 0 15 retries) (read_limit limit) (read_word 5 20 preambles) h
 
--- a call of `master` has the words that the matches give to `master`
-master_called : (answer dump explain serve master sim encode request : Bool) (image raw json : Option Text) (given : Option MessageWords)
-    (named : Option RequestWords) (asker : Option MasterWords) (words : MasterWords)
-    → (if answer then Some (Answer image) else if dump then Some Dump else if explain then Some (explain_call raw json)
+-- the call that the name of a subcommand chooses
+abbrev chosen : (answer dump explain serve master sim encode request : Bool) → (image raw json : Option Text) → Option MessageWords
+    → Option RequestWords → Option MasterWords → Option Call
+chosen answer dump explain serve master sim encode request image raw json given named asker =
+    if answer then Some (Answer image) else if dump then Some Dump else if explain then Some (explain_call raw json)
     else if serve then Some (Serve image)
     else if master then option_map (λ w. Master w) asker
     else if sim then Some (Sim image)
     else if encode then option_map (λ w. Encode w) given
-    else if request then option_map (λ w. Request w) named else None) ≡ Some (Master words) → asker ≡ Some words
-master_called answer dump explain serve master sim encode request image raw json given named asker words h = grind (arith, common_steps)
+    else if request then option_map (λ w. Request w) named else None
 
--- a call of `encode` or `request` has a number of preamble bytes that a sender may use
+-- a call has the words that the matches of clap give
+abbrev HasWords : Option MessageWords → Option RequestWords → Option MasterWords → Call → Type 0
+HasWords given named asker (Encode words) = given ≡ Some words
+HasWords given named asker (Request words) = named ≡ Some words
+HasWords given named asker (Master words) = asker ≡ Some words
+HasWords given named asker _ = Unit {0}
+
+has_words : (answer dump explain serve master sim encode request : Bool) (image raw json : Option Text) (given : Option MessageWords)
+    (named : Option RequestWords) (asker : Option MasterWords) (call : Call)
+    → chosen answer dump explain serve master sim encode request image raw json given named asker ≡ Some call
+    → HasWords given named asker call
+has_words answer dump explain serve master sim encode request image raw json given named asker (Encode w) h = grind (arith, common_steps)
+has_words answer dump explain serve master sim encode request image raw json given named asker (Request w) h = grind (arith, common_steps)
+has_words answer dump explain serve master sim encode request image raw json given named asker (Master w) h = grind (arith, common_steps)
+has_words answer dump explain serve master sim encode request image raw json given named asker _ h = tt
+
+called : (found : Text × List Row) (call : Call) → call_of (Some found) ≡ Some call
+    → HasWords (words_of found.1) (request_words_of found.1) (master_words_of found.1) call
+called found =
+    has_words
+    (bytes_eq found.0 (codes "answer")) (bytes_eq found.0 (codes "dump")) (bytes_eq found.0 (codes "explain"))
+    (bytes_eq found.0 (codes "serve")) (bytes_eq found.0 (codes "master")) (bytes_eq found.0 (codes "sim"))
+    (bytes_eq found.0 (codes "encode")) (bytes_eq found.0 (codes "request"))
+    (first_of (codes "image") found.1) (first_of (codes "raw") found.1) (first_of (codes "json") found.1) (words_of found.1)
+    (request_words_of found.1) (master_words_of found.1)
+
+-- a call of `encode` or `request` has 5 to 20 preamble bytes
 pub call_counted : (met : Option (Text × List Row)) (call : Call) → call_of met ≡ Some call → HasNumbersInRange call
 call_counted None call gives = cc
 call_counted (Some found) (Encode words) gives =
     words_counted
     (first_of (codes "preambles") found.1) (first_of (codes "WHO") found.1) (first_of (codes "ADDRESS") found.1)
-    (first_of (codes "COMMAND") found.1) (unwrap_or (first_of (codes "DATA") found.1) []) words
-    (words_called
-    (bytes_eq found.0 (codes "answer")) (bytes_eq found.0 (codes "dump")) (bytes_eq found.0 (codes "explain"))
-    (bytes_eq found.0 (codes "serve")) (bytes_eq found.0 (codes "master")) (bytes_eq found.0 (codes "sim"))
-    (bytes_eq found.0 (codes "encode"))
-    (bytes_eq found.0 (codes "request"))
-    (first_of (codes "image") found.1) (first_of (codes "raw") found.1) (first_of (codes "json") found.1) (words_of found.1)
-    (request_words_of found.1) (master_words_of found.1) words gives)
+    (first_of (codes "COMMAND") found.1) (unwrap_or (first_of (codes "DATA") found.1) []) words (called found (Encode words) gives)
 call_counted (Some found) (Request words) gives =
     request_counted
     (first_of (codes "preambles") found.1) (first_of (codes "WHO") found.1) (first_of (codes "ADDRESS") found.1)
-    (first_of (codes "COMMAND") found.1) (unwrap_or (all_of (codes "FIELD") found.1) []) words
-    (request_called
-    (bytes_eq found.0 (codes "answer")) (bytes_eq found.0 (codes "dump")) (bytes_eq found.0 (codes "explain"))
-    (bytes_eq found.0 (codes "serve")) (bytes_eq found.0 (codes "master")) (bytes_eq found.0 (codes "sim"))
-    (bytes_eq found.0 (codes "encode"))
-    (bytes_eq found.0 (codes "request"))
-    (first_of (codes "image") found.1) (first_of (codes "raw") found.1) (first_of (codes "json") found.1) (words_of found.1)
-    (request_words_of found.1) (master_words_of found.1) words gives)
+    (first_of (codes "COMMAND") found.1) (unwrap_or (all_of (codes "FIELD") found.1) []) words (called found (Request words) gives)
 call_counted (Some found) (Master words) gives =
     master_counted
     (first_of (codes "who") found.1) (first_of (codes "retries") found.1) (first_of (codes "limit") found.1)
-    (first_of (codes "preambles") found.1) words
-    (master_called
-    (bytes_eq found.0 (codes "answer")) (bytes_eq found.0 (codes "dump")) (bytes_eq found.0 (codes "explain"))
-    (bytes_eq found.0 (codes "serve")) (bytes_eq found.0 (codes "master")) (bytes_eq found.0 (codes "sim"))
-    (bytes_eq found.0 (codes "encode")) (bytes_eq found.0 (codes "request"))
-    (first_of (codes "image") found.1) (first_of (codes "raw") found.1) (first_of (codes "json") found.1) (words_of found.1)
-    (request_words_of found.1) (master_words_of found.1) words gives)
-call_counted (Some found) (Answer image) gives = tt
-call_counted (Some found) Dump gives = tt
-call_counted (Some found) Explain gives = tt
-call_counted (Some found) ExplainRaw gives = tt
-call_counted (Some found) ExplainJson gives = tt
-call_counted (Some found) ExplainRawJson gives = tt
-call_counted (Some found) (Serve image) gives = tt
-call_counted (Some found) (Sim image) gives = tt
+    (first_of (codes "preambles") found.1) words (called found (Master words) gives)
+call_counted (Some found) _ gives = tt

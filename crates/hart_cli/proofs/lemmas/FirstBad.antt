@@ -1,17 +1,17 @@
--- The words of a request are read in one way.
+-- The words of `hart encode` and `hart request` can be read in only one way.
 use Rattle.std.proofs.Common.{◌≡◌, ◌⊎◌, ℕ, Result, Ok, Err, arith, inl, inr, refl}
 use Rattle.std.proofs.lemmas.Grind.{common_steps}
 use Rattle.hart_values.specs.declared.address.Address.{Address}
 use Rattle.hart_values.specs.declared.master_id.MasterId.{MasterId}
 use Rattle.hart_frame.specs.wire.FrameParts.{FrameParts}
 use Rattle.hart_line.specs.script.Words.{HasNoValue, IsAddressWord, IsCommandWord, IsDataWord, IsWho}
-use Rattle.hart_cli.specs.declared.calls.request.fault.BadField.{BadField}
+use Rattle.hart_request.specs.declared.fault.BadField.{BadField}
 use Rattle.hart_cli.specs.declared.fault.CliFault.{CliFault}
 use Rattle.hart_cli.specs.declared.fault.CliFault.TheVariants as faults
 use Rattle.hart_cli.specs.encode.Encode.{IsFirstBad, WordsOutcome}
 use Rattle.hart_cli.specs.encode.MessageWords.{MessageWords}
 use Rattle.hart_cli.specs.request.Request.{HasBadField, IsFirstBadWord, ReadOutcome}
-use Rattle.hart_cli.specs.request.RequestWords.{RequestWords}
+use Rattle.hart_request.specs.RequestWords.{RequestWords}
 
 -- if a word is the first bad word, the words before it have values
 pub bad_parts : (words : MessageWords) (number : ℕ) → IsFirstBad words number
@@ -27,7 +27,7 @@ bad_parts words _ (IsFirstBad.bad_command master address who is none) = inr (inr
 bad_parts words _ (IsFirstBad.bad_data master address command who is asks none) =
     inr (inr (inr (refl, (master, who), (address, is), (command, asks), none)))
 
--- the same of the words of `hart request`
+-- if a word of `hart request` is the first bad word, the words before it have values
 pub bad_word_parts : (words : RequestWords) (number : ℕ) → IsFirstBadWord words number
     → ((number ≡ 1) × HasNoValue (IsWho words.who))
     ⊎ ((number ≡ 2) × ((master : MasterId) × IsWho words.who master) × HasNoValue (IsAddressWord words.address))
@@ -37,7 +37,7 @@ bad_word_parts words _ (IsFirstBadWord.bad_who none) = inl (refl, none)
 bad_word_parts words _ (IsFirstBadWord.bad_address master who none) = inr (inl (refl, (master, who), none))
 bad_word_parts words _ (IsFirstBadWord.bad_command master address who is none) = inr (inr (refl, (master, who), (address, is), none))
 
--- the fault of words of `hart encode` is a bad word
+-- if the words of `hart encode` have a fault, a word is bad
 words_fault : (words : MessageWords) (fault : CliFault) → WordsOutcome words (Err fault)
     → (number : ℕ) × (fault ≡ faults.BadWord number) × IsFirstBad words number
 words_fault words faults.Read h = absurd h
@@ -50,7 +50,7 @@ words_fault words (faults.Memory none) h = absurd h
 words_fault words (faults.BadWord number) h = (number, refl, h)
 words_fault words (faults.BadField bad) h = absurd h
 
--- words of `hart encode` are read in one way
+-- words of `hart encode` can be read in only one way
 pub one_read : (words : MessageWords) (a b : Result FrameParts CliFault) → WordsOutcome words a → WordsOutcome words b → a ≡ b
 one_read words (Ok f) (Ok g) h k = let same : f ≡ g = grind (arith, common_steps) in rw same refl
 one_read words (Ok f) (Err y) h k = let bad = words_fault words y k in absurd (grind (arith, bad_parts words bad.0 bad.2))
@@ -90,6 +90,6 @@ one_outcome words _ _ (field a h) (frame g k) = absurd (grind (arith, common_ste
 one_outcome words _ _ (field a h) (word n k) = absurd (grind (arith, bad_word_parts words n k))
 one_outcome words _ _ (field a h) (field b k) = let same : a ≡ b = grind (arith, common_steps) in rw same refl
 
--- words of `hart request` are read in one way
+-- words of `hart request` can be read in only one way
 pub one_named_read : (words : RequestWords) (a b : Result FrameParts CliFault) → ReadOutcome words a → ReadOutcome words b → a ≡ b
 one_named_read words a b h k = one_outcome words a b (is_read words a h) (is_read words b k)

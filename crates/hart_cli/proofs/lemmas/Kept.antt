@@ -1,12 +1,10 @@
 -- A text that is made piece by piece.
-use Rattle.std.proofs.Common.{◌≡◌, ℕ, List, [], ◌++◌, Result, refl, append_assoc, arith}
+use Rattle.std.proofs.Common.{◌≡◌, ℕ, List, [], ◌++◌, refl, append_assoc, arith}
 use Rattle.std.proofs.KnownBytes.{Appends-nil}
 use Rattle.std.proofs.lemmas.Grind.{common_steps}
-use Rattle.std.specs.Result.{IsErrAnd}
-use Rattle.hart_cli.specs.declared.stream.Failed.{Failed}
-use Rattle.hart_cli.specs.stream.Kept.{AddsText, Tells}
+use Rattle.hart_cli.specs.stream.Kept.{AddsText}
 use Rattle.hart_cli.specs.stream.Stream.{FailsToWrite, Stream}
-use Rattle.hart_cli.proofs.lemmas.Writes.{FailsToWrite-longer, FailsToWrite-on, WritesAll-on}
+use Rattle.hart_cli.proofs.lemmas.Writes.{FailsToWrite-on, WritesAll-on}
 
 -- appending a text to the kept text adds the text, with nothing written
 pub adds_kept : (s : Stream) (before after text : List ℕ) → after ≡ before ++ text → AddsText s s before after text
@@ -17,16 +15,7 @@ pub adds_then : (a b c : Stream) (p q r x y : List ℕ) → AddsText a b p q x �
 adds_then a b c p q r x y h k =
     let wrote = WritesAll-on a b c h.written k.written h.wrote k.wrote in grind (arith, common_steps, append_assoc)
 
--- a write that failed in the second of two texts failed in the joined text
+-- if a write failed in the second of two texts, it failed in both texts joined
 pub fails_then : (a b c : Stream) (p q x y : List ℕ) → AddsText a b p q x → FailsToWrite b c (q ++ y) → FailsToWrite a c (p ++ (x ++ y))
 fails_then a b c p q x y h fails =
     grind (arith, common_steps, append_assoc, FailsToWrite-on a b c h.written (q ++ y) h.wrote fails)
-
--- a write that failed in the first of two texts failed in the joined text
-pub fails_first : (a b : Stream) (p x y : List ℕ) → FailsToWrite a b (p ++ x) → FailsToWrite a b (p ++ (x ++ y))
-fails_first a b p x y fails = rw (← append_assoc) (FailsToWrite-longer a b (p ++ x) y fails)
-
--- a call that returns an error after a failed write meets `Tells`
-pub tells_failure : {T : Type 0} (old new : Stream) (before after text : List ℕ) (P : Failed → Type 0) (result : Result T Failed)
-    → IsErrAnd result P → FailsToWrite old new (before ++ text) → Tells old new before after text result
-tells_failure old new before after text P result failed fails = grind (arith, common_steps)

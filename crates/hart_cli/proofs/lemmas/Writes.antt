@@ -10,11 +10,11 @@ use Rattle.hart_cli.specs.stream.Stream.{FailsToWrite, Stream, WritesAll}
 pub WritesAll-on : (a b c : Stream) (xs ys : List ℕ) → WritesAll a b xs → WritesAll b c ys → WritesAll a c (xs ++ ys)
 WritesAll-on a b c xs ys h k = grind (arith, common_steps, Appends-trans)
 
--- a write that failed in the second of two texts, after the first text was written, failed in the joined text
+-- if the first of two texts was written and a write failed in the second, it failed in both texts joined
 pub FailsToWrite-on : (a b c : Stream) (xs ys : List ℕ) → WritesAll a b xs → FailsToWrite b c ys → FailsToWrite a c (xs ++ ys)
 FailsToWrite-on a b c xs ys h k = grind (arith, common_steps, Appends-trans)
 
--- a write that failed in a text failed in each longer text
+-- if a write failed in a text, it failed in each longer text
 pub FailsToWrite-longer : (old new : Stream) (text more : List ℕ) → FailsToWrite old new text → FailsToWrite old new (text ++ more)
 FailsToWrite-longer old new text more fails =
     let after = length-append fails.0.rest more in grind (arith, common_steps)

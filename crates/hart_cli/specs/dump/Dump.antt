@@ -1,4 +1,4 @@
--- What `hart dump` writes for what it reads (implementation choice).
+-- What `hart dump` writes for its input (implementation choice).
 use Rattle.std.specs.Prelude.{◌≡◌, ℕ, List, ◌++◌, length, Option}
 use Rattle.hart_frame.specs.heard.Character.{Character}
 use Rattle.hart_frame.specs.heard.Frames.{AreFrames, IsUndecided}
@@ -10,18 +10,18 @@ use Rattle.hart_cli.specs.input.Decoding.{item_decoding}
 use Rattle.hart_cli.specs.input.Input.{Ending, input_limit}
 use Rattle.hart_cli.specs.input.LiveInput.{HasText, LiveOutcome}
 
--- The lines of some characters are the lines of the frames in them.
+-- The lines of `hart dump` for some characters: one line for each frame in them.
 pub record AreFrameLines (chars : List Character) (lines : List ℕ) : Type 0 where
   pub frames : List Found
   pub are_frames : AreFrames chars 0 frames
   pub text : lines ≡ dump_text frames
 
--- The input read so far has this fault, if any, and these lines: the lines of its characters before the fault.
+-- What `hart dump` writes for an input with this first fault, if any: the lines of the frames before the fault.
 abbrev pub IsDump : List ℕ → Ending → Option CliFault → List ℕ → Type 0
 IsDump = HasText item_decoding AreFrameLines
 
--- These frames in some characters are decided: whatever is heard next, these frames come first. In the characters after them, no
--- frame is decided yet.
+-- The decided frames of some characters. Whatever is heard next, these frames come first. In the characters after them, no frame is decided
+-- yet.
 pub record AreDecided (chars : List Character) (frames : List Found) : Type 0 where
   pub passed : List Character
   pub rest : List Character
@@ -30,13 +30,13 @@ pub record AreDecided (chars : List Character) (frames : List Found) : Type 0 wh
       → AreFrames (chars ++ more) 0 (frames ++ later)
   pub undecided : IsUndecided rest
 
--- These lines of some characters are decided: they are the lines of the decided frames.
+-- The decided lines of some characters are the lines of the decided frames.
 pub record AreDecidedLines (chars : List Character) (lines : List ℕ) : Type 0 where
   pub frames : List Found
   pub decided : AreDecided chars frames
   pub text : lines ≡ dump_text frames
 
--- A call of `dump` reads an input of at most 1,048,576 bytes, and writes the line of each frame in the input. If a write fails, no line is
--- missing but of frames that the last 16,384 bytes decided.
+-- A call of `dump` reads an input of at most 1,048,576 bytes, and writes the line of each frame in the input. If a write fails, all lines
+-- that were decided before the last 16,384 bytes have been written.
 abbrev pub DumpOutcome : OutcomeRelation
 DumpOutcome = LiveOutcome item_decoding input_limit AreFrameLines AreDecidedLines

@@ -19,7 +19,7 @@ abbrev pub master_word : MasterId → List ℕ
 master_word Primary = codes "P"
 master_word Secondary = codes "S"
 
--- The word of a burst bit is 1 if it is set, and 0 if it is not.
+-- The word of a burst bit is 1 if the bit is set, and 0 if the bit is not set.
 abbrev pub burst_word : Bool → List ℕ
 burst_word false = codes "0"
 burst_word true = codes "1"

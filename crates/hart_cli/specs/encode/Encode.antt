@@ -21,14 +21,14 @@ pub record IsRequestOf (words : MessageWords) (frame : FrameParts) : Type 0 wher
   pub burst : frame.burst ≡ false
   pub expansion : frame.expansion ≡ []
 
--- The text for the words is one line: the message of the request that they describe. The message has the number of preamble bytes given
--- with the words.
+-- The text for the words is one line: the message of the request that the words describe. The words also give the message's number of
+-- preamble bytes.
 pub record IsEncoding (words : MessageWords) (text : List ℕ) : Type 0 where
   pub frame : FrameParts
   pub request : IsRequestOf words frame
   pub line : IsMessageLine frame words.preambles text
 
--- The first word without a value has this number: 1 for WHO, 2 for ADDRESS, 3 for COMMAND and 4 for DATA.
+-- The number of the first word that has no value: 1 for WHO, 2 for ADDRESS, 3 for COMMAND and 4 for DATA.
 pub data IsFirstBad (words : MessageWords) : ℕ → Type 0 where
   bad_who : HasNoValue (IsWho words.who) → IsFirstBad words 1
   bad_address : (master : MasterId) → IsWho words.who master → HasNoValue (IsAddressWord words.address) → IsFirstBad words 2
@@ -49,9 +49,9 @@ EncodeOutcome words writer writer_after (Err (BadWord number)) =
     IsFirstBad words number × WritesNothing writer writer_after
 EncodeOutcome words writer writer_after (Err _) = ⊥
 
--- Only private calls use the next definition: what reading the words returns.
+-- Only private calls use the next definition.
 
--- Reading the words returns the frame that they ask for, or the number of the first bad word.
+-- The result of reading the words: the frame that they describe, or the number of the first bad word.
 abbrev pub WordsOutcome : MessageWords → Result FrameParts CliFault → Type 0
 WordsOutcome words (Ok frame) = IsRequestOf words frame
 WordsOutcome words (Err (BadWord number)) = IsFirstBad words number

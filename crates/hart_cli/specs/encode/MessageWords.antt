@@ -1,7 +1,7 @@
 -- What `hart encode` is given (implementation choice).
 use Rattle.std.specs.Prelude.{ℕ, List}
 
--- A message to send is given by four words and the number of its preamble bytes.
+-- The four words that describe a message, and the number of its preamble bytes.
 pub record MessageWords : Type 0 where
   pub who : List ℕ
   pub address : List ℕ

@@ -12,7 +12,8 @@ use Rattle.hart_cli.specs.input.Input.{Ending, ReadsPortion, ReadsToWithin, endi
 use Rattle.hart_cli.specs.input.LiveInput.{StopsSoon}
 use Rattle.hart_cli.specs.stream.Stream.{Stream}
 
--- One read returned bytes. They were added to the bytes read ahead, with a space after them if the input ended.
+-- One read returned bytes, and these bytes were added to the bytes that were read ahead. If the read found the end of the input, a space
+-- was added.
 pub record ReadsAhead (old new : Stream) (before after : List ℕ) (room : ℕ) (portion : Portion) : Type 0 where
   pub bytes : List ℕ
   pub reads : ReadsPortion old new bytes room portion.end
@@ -20,14 +21,15 @@ pub record ReadsAhead (old new : Stream) (before after : List ℕ) (room : ℕ) 
   pub few : length bytes ≤ most_at_once
   pub added : after ≡ before ++ ended_text bytes (ending_of portion.end)
 
--- The number of bytes read of an input. If the input ended, the space that stands for its end is counted too.
+-- The number of bytes read from an input. If the input ended, the space that stands for the input's end is counted too.
 abbrev pub ended_length : Option InputEnd → ℕ → ℕ
 ended_length (Some ends.Ended) read = read + 1
 ended_length end read = read
 
--- The next step depends on the end of the input, if it came to one, and on the rest after what was decoded. If the input ended, an
--- empty rest is no fault, and any other rest is bad hex. If a read failed, the fault is `Read` for every rest. In the other two cases, a
--- rest that is not open is bad hex. With an open rest, the call reads on if the input may go on, and returns `TooLong` past the limit.
+-- What the call does next. This depends on the end of the input, if the input has ended, and on the rest that is not decoded. At the end of
+-- the input, an empty rest is no fault, and any other rest is bad hex. After a failed read, the fault is `Read` for every rest. Otherwise,
+-- a rest that more bytes cannot complete is bad hex. If they can complete it (`IsOpen`), the call reads on, or returns `TooLong` if the
+-- input exceeds the limit.
 abbrev pub IsNextStep : (List ℕ → Type 0) → Option InputEnd → List ℕ → ℕ → NextStep → Type 0
 IsNextStep IsOpen None rest place ReadOn = IsOpen rest
 IsNextStep IsOpen None rest place (Stop fault) = (IsOpen rest → ⊥) × (fault ≡ Some (faults.BadHex place))
@@ -40,7 +42,7 @@ IsNextStep IsOpen (Some ends.TooLong) rest place ReadOn = ⊥
 IsNextStep IsOpen (Some ends.TooLong) rest place (Stop fault) =
     (IsOpen rest × (fault ≡ Some faults.TooLong)) ⊎ ((IsOpen rest → ⊥) × (fault ≡ Some (faults.BadHex place)))
 
--- An input with a limit was read and decoded to its end or up to its first fault.
+-- An input with a limit was read and decoded, to its end or up to its first fault.
 pub record DecodesAll {Heard : Type 0} (decoding : Decoding Heard) (limit : ℕ) (reader reader_after : Stream) (fault : Option CliFault)
     (input : List ℕ) (heard : Heard) : Type 0 where
   pub ending : Ending

@@ -1,4 +1,4 @@
--- What is read of an input, and how the input comes to its end (implementation choice).
+-- What is read from an input, and how the input ends (implementation choice).
 use Rattle.std.specs.Prelude.{◌≡◌, ◌≢◌, ◌⊎◌, ℕ, ◌+◌, ◌-◌, ◌^◌, ◌≤◌, List, [], ◌∷◌, ◌++◌, length, Option, None, Some}
 use Rattle.std.specs.Io.KnownBytes.{Consumes, IsAtEnd}
 use Rattle.hart_line.specs.declared.memory.NoRoom.{NoRoom}
@@ -8,11 +8,11 @@ use Rattle.hart_cli.specs.declared.fault.CliFault.TheVariants as faults
 use Rattle.hart_cli.specs.declared.input.InputEnd.{InputEnd}
 use Rattle.hart_cli.specs.declared.input.InputEnd.TheVariants.{Ended, ReadFailed, TooLong}
 
--- An input has at most 1,048,576 bytes.
+-- The greatest number of bytes of an input of `answer`, `dump` and `sim`, and of a line of `serve` and `master`.
 abbrev pub input_limit : ℕ
 input_limit = 1048576
 
--- An input has at most 2^64 - 1 bytes if only one portion of it is kept at a time.
+-- The greatest number of bytes of an input of `explain`, `serve` and `master`: 2^64 - 1.
 abbrev pub stream_limit : ℕ
 stream_limit = 2 ^ 64 - 1
 
@@ -20,20 +20,20 @@ stream_limit = 2 ^ 64 - 1
 abbrev pub most_at_once : ℕ
 most_at_once = 16384
 
--- These bytes, and no others, were taken from the reader, and no read failed.
+-- Exactly these bytes were taken from the reader, and no read failed.
 abbrev pub ReadsWell : Stream → Stream → List ℕ → Type 0
 ReadsWell old new bytes = Consumes old.bytes new.bytes bytes × (new.failures ≡ old.failures)
 
--- A read failed after these bytes were taken from the reader.
+-- Exactly these bytes were taken from the reader, and then a read failed.
 abbrev pub ReadFails : Stream → Stream → List ℕ → Type 0
 ReadFails old new bytes = Consumes old.bytes new.bytes bytes × (new.failures ≡ count_after_failure old.failures)
 
--- These bytes, and one byte more, were taken from the reader, and no read failed.
+-- These bytes and one more byte were taken from the reader, and no read failed.
 pub record ReadsBeyond (old new : Stream) (bytes : List ℕ) : Type 0 where
   pub beyond : ℕ
   pub read : ReadsWell old new (bytes ++ beyond ∷ [])
 
--- One byte more than a limit was taken from the reader. The text is the bytes within the limit.
+-- The bytes of `text` and one more byte were taken from the reader. The length of `text` is the limit.
 abbrev pub ReadsPast : ℕ → Stream → Stream → List ℕ → Type 0
 ReadsPast limit old new text = ReadsBeyond old new text × (length text ≡ limit)
 
@@ -47,27 +47,26 @@ ReadsWithin limit old new text TooLong = ReadsPast limit old new text
 abbrev pub Reads : Stream → Stream → List ℕ → InputEnd → Type 0
 Reads old new text end = ReadsWithin input_limit old new text end
 
--- A call reads an input to its end, or leaves it before that. If it leaves it, definitions demand only what is true whatever follows.
+-- An input was read to its end, or was left before its end. If it was left, definitions say only what is true whatever bytes follow.
 pub data Ending : Type 0 where
   Left : Ending
   CameTo : (end : InputEnd) → Ending
 
--- This text was read from an input with a limit. Then the input came to its end, or the call left the input. If the call left it, more of
--- the input may be unread, and one byte past the limit may have been read after the text.
+-- This text was read from an input with a limit. Then the input ended, or the call left it. If the call left the input, more of it may be
+-- unread, and one byte past the limit may have been read after the text.
 abbrev pub ReadsToWithin : ℕ → Stream → Stream → List ℕ → Ending → Type 0
 ReadsToWithin limit old new text Left = (ReadsWell old new text × (length text ≤ limit)) ⊎ ReadsPast limit old new text
 ReadsToWithin limit old new text (CameTo end) = ReadsWithin limit old new text end
 
--- Room for an input: one byte for each byte that it may have, and one more for the space that makes its last item whole.
+-- How many bytes of memory an input needs: one for each byte that it may have, and one for the space that completes its last item.
 abbrev pub input_room : ℕ
 input_room = input_limit + 1
 
--- Room for an input was refused, and nothing was read.
+-- Memory for an input was refused, and nothing was read.
 abbrev pub LacksInputRoom : Stream → Stream → NoRoom → Type 0
 LacksInputRoom old new none = (none.items ≡ input_room) × (new ≡ old)
 
--- Reading a whole input ends with this fault: a read failed, there were more bytes than the limit, or room for the input was
--- refused.
+-- The faults of reading a whole input: a read failed, the input is longer than the limit, or memory for the input was refused.
 abbrev pub IsReadingFault : Stream → Stream → CliFault → Type 0
 IsReadingFault old new faults.Read = (text : List ℕ) × Reads old new text ReadFailed
 IsReadingFault old new faults.TooLong = (text : List ℕ) × Reads old new text TooLong
@@ -82,12 +81,13 @@ fault_of_end Ended = None
 fault_of_end ReadFailed = Some faults.Read
 fault_of_end TooLong = Some faults.TooLong
 
--- The input came to this end. With `None`, the call left the input.
+-- The ending of an input. For `Some end`, the input came to this end. For `None`, the call left the input.
 abbrev pub ending_of : Option InputEnd → Ending
 ending_of None = Left
 ending_of (Some end) = CameTo end
 
--- With `room` bytes left within the limit, one read returned these bytes. The input came to its end with this read, or may go on.
+-- One read returned these bytes. Before the read, `room` bytes were left within the limit. After the read, the input is at its end, or it
+-- may go on.
 abbrev pub ReadsPortion : Stream → Stream → List ℕ → ℕ → Option InputEnd → Type 0
 ReadsPortion old new bytes room None = ReadsWell old new bytes × (bytes ≢ []) × (length bytes ≤ room)
 ReadsPortion old new bytes room (Some Ended) = ReadsWell old new bytes × IsAtEnd new.bytes × (bytes ≡ [])

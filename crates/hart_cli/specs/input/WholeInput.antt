@@ -12,13 +12,14 @@ pub record WholeInput (reader reader_after : Stream) (Holds : List ℕ → Type 
   pub whole : Reads reader reader_after input Ended
   pub holds : Holds input
 
--- A call has this fault before it writes: a read failed, the input was too long, room for it was refused, or it was read to its end and
--- the fault lies in the input.
+-- The faults of a call before it writes: a read failed, the input was too long, memory for the input was refused, or the whole input has a
+-- fault in its content.
 abbrev pub HasWholeFault : (List ℕ → CliFault → Type 0) → Stream → Stream → CliFault → Type 0
 HasWholeFault HasFault reader reader_after fault =
     IsReadingFault reader reader_after fault ⊎ WholeInput reader reader_after (λ input. HasFault input fault)
 
--- A call wrote the text for its whole input at `Ok`, a prefix of that text if a write failed, and nothing at any other fault.
+-- At `Ok`, a call wrote the text for its whole input. If a write failed, it wrote a prefix of that text. At any other fault it wrote
+-- nothing.
 abbrev pub WholeOutcome : (List ℕ → List ℕ → Type 0) → (List ℕ → CliFault → Type 0) → Stream → Stream → Stream → Stream
     → Result (Unit {0}) CliFault → Type 0
 WholeOutcome IsText HasFault reader reader_after writer writer_after (Ok done) =

@@ -16,6 +16,7 @@ use Rattle.hart_master.specs.declared.frame_event.FrameEvent.{FrameEvent}
 use Rattle.hart_master.specs.declared.frame_event.FrameEvent.TheVariants.{Answered, NoReply, Nothing, Retry}
 use Rattle.hart_master.specs.declared.frame_event.RejectedFrame.{RejectedFrame}
 use Rattle.hart_master.specs.declared.frame_hand.FrameHand.{FrameHand}
+use Rattle.hart_text.specs.Items.{HasBadHex, IsBadHexAt, ReadsAs, ReadsUpTo}
 use Rattle.hart_cli.specs.FaultText.{fault_text}
 use Rattle.hart_cli.specs.declared.calls.master.ask.Ask.{Ask}
 use Rattle.hart_cli.specs.declared.calls.master.ask.Ask.TheVariants.{Send, Submit, Tick}
@@ -23,17 +24,16 @@ use Rattle.hart_cli.specs.declared.fault.CliFault.{CliFault}
 use Rattle.hart_cli.specs.declared.fault.CliFault.TheVariants.{BadHex}
 use Rattle.hart_cli.specs.master.Ask.{ReadsAsk}
 use Rattle.hart_cli.specs.session.Session.{bad_line}
-use Rattle.hart_cli.specs.text.Items.{HasBadHex, IsBadHexAt, ReadsAs, ReadsUpTo}
 use Rattle.hart_cli.specs.text.MessageLine.{IsMessageLine}
 use Rattle.hart_cli.specs.text.Words.{bytes_word, line_of}
 
--- A master that answers lines: which of the two masters it is, how many preamble bytes it sends, and the state of the master.
+-- A master that answers lines: whether it is the primary or the secondary master, how many preamble bytes it sends, and its state.
 pub record LineMaster : Type 0 where
   pub who : MasterId
   pub preambles : ℕ
   pub master : FrameMasterState
 
--- The same master with this in hand.
+-- The same master, with `hand` in hand.
 abbrev pub with_hand : LineMaster → FrameHand → LineMaster
 with_hand asker hand = record asker { master = record asker.master { hand = hand } }
 
@@ -42,15 +42,16 @@ abbrev pub begins_blank : List ℕ → Bool
 begins_blank [] = true
 begins_blank (byte ∷ more) = is_blank byte
 
--- A line that says what was heard has `heard`, and then the items. The items begin with a space or a tab, or there are none.
+-- The items of a line that says what was heard: all that follows the word `heard`. The items begin with a space or a tab, or are empty.
+-- `None` for any other line.
 abbrev pub items_of : List ℕ → Option (List ℕ)
 items_of line = if bytes_eq (take 5 line) (codes "heard") && begins_blank (drop 5 line) then Some (drop 5 line) else None
 
--- The line of nothing.
+-- The line `-`, which says that nothing happened.
 abbrev pub dash_line : List ℕ
 dash_line = line_of (codes "-" ∷ [])
 
--- The line of a reply has the number of sendings, and the payload in hex.
+-- The line for a reply: `answered`, the number of sendings, and the payload in hex.
 abbrev pub answered_line : ℕ → List ℕ → List ℕ
 answered_line sendings payload = line_of (codes "answered" ∷ decimal sendings ∷ bytes_word payload ∷ [])
 
@@ -60,51 +61,52 @@ master_fault_text OutOfRange = codes "out of range"
 master_fault_text Pending = codes "a request is pending"
 master_fault_text WrongAddress = codes "wrong address"
 
--- The answer to a request: `ok` if the master took it, and otherwise its fault.
+-- The answer to a new request: `ok` if the master took the request, and otherwise the master's fault.
 abbrev pub submitted_line : Result (Unit {0}) RejectedFrame → List ℕ
 submitted_line (Ok done) = line_of (codes "ok" ∷ [])
 submitted_line (Err rejected) = codes "refused: " ++ master_fault_text rejected.fault ++ 10 ∷ []
 
--- The answer when time passes: `retry` if the request is due again, `noreply` and the number of sendings if it was given up.
+-- The answer after time has passed. `retry` says that the request is due again, and `noreply` says how often the request was sent before it
+-- was given up. If neither happened, the answer is `-`.
 abbrev pub ticked_line : FrameEvent → List ℕ
 ticked_line (Answered sendings) = dash_line
 ticked_line Nothing = dash_line
 ticked_line Retry = line_of (codes "retry" ∷ [])
 ticked_line (NoReply sendings) = line_of (codes "noreply" ∷ decimal sendings ∷ [])
 
--- The line of the message that is sent, with this number of preamble bytes.
+-- The line of the word `send` and the message of the frame with this number of preamble bytes.
 pub record IsSendLine (preambles : ℕ) (frame : FrameParts) (said : List ℕ) : Type 0 where
   pub message_line : List ℕ
   pub is_line : IsMessageLine frame preambles message_line
   pub whole : said ≡ codes "send " ++ message_line
 
--- The line of the message that is due, or of nothing.
+-- The line for the message that is due, or `-` if no message is due.
 abbrev pub IsDueLine : ℕ → Option FrameParts → List ℕ → Type 0
 IsDueLine preambles None said = said ≡ dash_line
 IsDueLine preambles (Some frame) said = IsSendLine preambles frame said
 
--- A delivery is answered if it has exactly one frame, and this frame is the reply to the request in hand. Then the line has the payload of
--- this frame.
+-- The answer to a delivery. If its only frame is the reply to the request in hand, the answer has the payload of this reply. Otherwise the
+-- answer is `-`.
 pub data Hears (hand : FrameHand) (delivery : List Character) : FrameEvent → List ℕ → Type 0 where
   answered : (found : Found) → AreFrames delivery 0 (found ∷ []) → BringsReply hand found.frame
       → Hears hand delivery (Answered (sendings_of hand)) (answered_line (sendings_of hand) found.frame.payload)
   nothing : ((found : Found) → AreFrames delivery 0 (found ∷ []) → BringsReply hand found.frame → ⊥) → Hears hand delivery Nothing dash_line
 
--- What a line asks becomes a call of the master.
+-- What the master has in hand after it did what a line asks.
 abbrev pub hand_asked : FrameMasterState → Ask → FrameHand
 hand_asked master (Submit request) = hand_submitted master.hand request
 hand_asked master Send = hand_sent master.hand
 hand_asked master (Tick count) = hand_ticked master.retries master.reply_limit master.hand count
 
--- The answer to what a line asks.
+-- The answer to a line that asks something.
 abbrev pub IsAskedLine : LineMaster → Ask → List ℕ → Type 0
 IsAskedLine asker (Submit request) said = said ≡ submitted_line (result_submitted asker.master.hand request)
 IsAskedLine asker Send said = IsDueLine asker.preambles (frame_due asker.master.hand) said
 IsAskedLine asker (Tick count) said =
     said ≡ ticked_line (event_ticked asker.master.retries asker.master.reply_limit asker.master.hand count)
 
--- A master's answer to one line, and the master afterwards. A bad line changes nothing: one that is too long, one with bad hex after
--- `heard`, whose place is counted from the beginning of the line, and one with a bad word.
+-- A master's answer to one line, and the master afterwards. A bad line changes nothing. A line is bad if it is too long, if it has bad hex
+-- after `heard`, or if it has a bad word. The place of bad hex is counted from the beginning of the line.
 pub data ServesMasterLine (asker : LineMaster) : Option (List ℕ) → LineMaster → List ℕ → Type 0 where
   too_long : ServesMasterLine asker None asker (bad_line (codes "too long"))
   heard : (line items : List ℕ) (delivery : List Character) (event : FrameEvent) (said : List ℕ) → items_of line ≡ Some items
@@ -119,7 +121,8 @@ pub data ServesMasterLine (asker : LineMaster) : Option (List ℕ) → LineMaste
 
 -- Only private calls use the definitions from here on.
 
--- A text is read as characters, and the master heard them. Or the text has bad hex at a place, and the master does not change.
+-- A text was read as characters, and the master heard them. If the text has bad hex instead, the master is unchanged, and the answer names
+-- the place.
 abbrev pub HearsItems : LineMaster → List ℕ → LineMaster → List ℕ → Type 0
 HearsItems asker text after said =
     ((delivery : List Character) × (event : FrameEvent) × ReadsUpTo text delivery [] × Hears asker.master.hand delivery event said
@@ -127,7 +130,7 @@ HearsItems asker text after said =
     ⊎ ((chars : List Character) × (place : ℕ) × HasBadHex text chars place × (after ≡ asker)
     × (said ≡ bad_line (fault_text (BadHex (5 + place)))))
 
--- A request that a line asks for is a request frame.
+-- If a line asks the master to take a frame in hand, this frame is the request of a master (`IsRequestFrame`).
 abbrev pub IsProper : Ask → Type 0
 IsProper (Submit request) = IsRequestFrame request
 IsProper Send = Unit {0}

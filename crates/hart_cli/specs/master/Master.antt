@@ -12,7 +12,7 @@ use Rattle.hart_cli.specs.master.Line.{LineMaster, ServesMasterLine}
 use Rattle.hart_cli.specs.master.MasterWords.{MasterWords}
 use Rattle.hart_cli.specs.session.Session.{ServedOutcome}
 
--- A session begins with nothing in hand.
+-- The master at the beginning of a session of `hart master`. It has no request in hand.
 abbrev pub new_master : MasterSettings → LineMaster
 new_master settings = record {
   who = settings.who;
@@ -20,20 +20,20 @@ new_master settings = record {
   master = record { retries = settings.retries; reply_limit = settings.reply_limit; hand = Empty };
 }
 
--- At most 15 retries, a limit of at least 1, and 5 to 20 preamble bytes.
+-- The limits of settings: at most 15 retries, a reply timeout of at least 1, and 5 to 20 preamble bytes.
 abbrev pub AreSettings : MasterSettings → Type 0
 AreSettings settings = (settings.retries ≤ 15) × (0 < settings.reply_limit) × IsPreambleCount settings.preambles
 
--- The master served the lines that the call read.
+-- A master with these settings answered the lines that the call read.
 abbrev pub MasterOutcome : MasterSettings → OutcomeRelation
 MasterOutcome settings = ServedOutcome ServesMasterLine (new_master settings)
 
--- The time for which the masters of `hart sim` await a reply: 33 character times for the primary master, and 41 for the secondary.
+-- How many character times the masters of `hart sim` wait for a reply: 33 for the primary master, and 41 for the secondary.
 abbrev pub usual_limit : MasterId → ℕ
 usual_limit Primary = 33
 usual_limit Secondary = 41
 
--- The settings that words give to this master.
+-- The settings that the words give to this master. If the words have no reply timeout, this master has the same timeout as in `hart sim`.
 abbrev pub settings_of : MasterId → MasterWords → MasterSettings
 settings_of who words = record {
   who = who;
@@ -42,9 +42,8 @@ settings_of who words = record {
   preambles = words.preambles;
 }
 
--- If the word of the master is neither `P` nor `S`, a call returned this and touched neither the reader nor the writer. Otherwise the
--- master
--- with the settings of the words served the lines that the call read.
+-- If the word for the master is neither `P` nor `S`, the call reported this word as bad, and touched neither the reader nor the writer.
+-- Otherwise the master with the settings of the words answered the lines that the call read.
 abbrev pub MasterCallOutcome : MasterWords → OutcomeRelation
 MasterCallOutcome words reader reader_after writer writer_after result =
     (HasNoValue (IsWho words.who) × (result ≡ Err (BadWord 1)) × (reader_after ≡ reader) × (writer_after ≡ writer))

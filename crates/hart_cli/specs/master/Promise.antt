@@ -9,11 +9,11 @@ use Rattle.hart_frame.specs.heard.Character.{Character}
 use Rattle.hart_frame.specs.heard.Frames.{AreFrames}
 use Rattle.hart_frame.specs.wire.FrameParts.{FrameParts}
 use Rattle.hart_master.specs.Acceptance.{IsReplyFrame}
+use Rattle.hart_text.specs.Items.{ReadsAs}
 use Rattle.hart_cli.specs.declared.calls.master.ask.Ask.TheVariants.{Submit}
 use Rattle.hart_cli.specs.master.Ask.{ReadsAsk}
 use Rattle.hart_cli.specs.master.Line.{IsSendLine, LineMaster, ServesMasterLine, answered_line, items_of}
 use Rattle.hart_cli.specs.session.Session.{line_read}
-use Rattle.hart_cli.specs.text.Items.{ReadsAs}
 use Rattle.hart_cli.specs.text.Words.{line_of}
 use Rattle.std.specs.Prelude.{Some, decimal}
 
@@ -22,7 +22,7 @@ pub record Exchange : Type 0 where
   pub line : List ℕ
   pub said : List ℕ
 
--- A session: each line has the answer of the master in the state that the earlier lines led to.
+-- A session: the master answers each line in the state to which the earlier lines led.
 pub data Session : LineMaster → List Exchange → LineMaster → Type 0 where
   nothing : (asker : LineMaster) → Session asker [] asker
   first : (asker next after : LineMaster) (exchange : Exchange) (exchanges : List Exchange)
@@ -37,13 +37,13 @@ begins word text = bytes_eq (take (length word) text) word
 abbrev pub is_sending : Exchange → Bool
 is_sending exchange = begins (codes "send ") exchange.said
 
--- Whether an answer ends a request or begins one: it was answered or given up, or a new one was taken.
+-- Whether an answer says that a request was taken, answered or given up.
 abbrev pub is_turn : Exchange → Bool
 is_turn exchange =
     begins (codes "answered ") exchange.said || begins (codes "noreply ") exchange.said || bytes_eq exchange.said (codes "ok\n")
 
--- After these exchanges, this request is in hand and was sent so often: a line asked for it, the master took it, since then it was neither
--- answered nor given up, and no other was taken.
+-- After these exchanges this request is in hand, and was sent `sendings` times. A line asked for the request, and the master took the
+-- request. Since then the request was neither answered nor given up, and no other request was taken.
 pub record IsInHand (who : MasterId) (before : List Exchange) (request : FrameParts) (sendings : ℕ) : Type 0 where
   pub earlier : List Exchange
   pub line : List ℕ
@@ -53,7 +53,7 @@ pub record IsInHand (who : MasterId) (before : List Exchange) (request : FramePa
   pub goes_on : All (λ exchange. is_turn exchange ≡ false) since
   pub counted : sendings ≡ count_by is_sending since
 
--- A line says that a delivery was heard whose only frame is this one.
+-- A line says that a delivery was heard, and this frame is the only frame of the delivery.
 pub record SaysHeard (line : List ℕ) (frame : FrameParts) : Type 0 where
   pub items : List ℕ
   pub delivery : List Character
@@ -63,14 +63,15 @@ pub record SaysHeard (line : List ℕ) (frame : FrameParts) : Type 0 where
   pub alone : AreFrames delivery 0 (found ∷ [])
   pub is_frame : frame ≡ found.frame
 
--- Whether an answer tells nothing of a request: it is none of the other answers of `KeepsPromise`.
+-- Whether an answer says nothing about a request in hand: it is not `send` with a message, `answered`, `retry`, `noreply`, or the refusal
+-- of a request because another is pending.
 abbrev pub is_quiet : List ℕ → Bool
 is_quiet said = not (begins (codes "send ") said || begins (codes "answered ") said || begins (codes "retry") said
     || begins (codes "noreply ") said || begins (codes "refused: a request is pending") said)
 
--- What an answer says of a request is true of the request that is in hand after the exchanges before:
--- it is sent at most `retries + 1` times; its reply is the only frame of the delivery in this very line; it is due again at most `retries`
--- times; it is given up after `retries + 1` sendings; and only then another is refused as long as it is in hand.
+-- What an answer says of a request is true of the request that is in hand after the earlier exchanges. The request is sent at most
+-- `retries + 1` times. In an answer `answered`, the reply is the only frame of the delivery in this line. The request is due again at most
+-- `retries` times, and is given up after `retries + 1` sendings. A new request is refused as pending only while the request is in hand.
 pub data KeepsPromise (who : MasterId) (preambles retries : ℕ) (before : List Exchange) (line : List ℕ) : List ℕ → Type 0 where
   quiet : (said : List ℕ) → is_quiet said ≡ true → KeepsPromise who preambles retries before line said
   sends : (request : FrameParts) (sendings : ℕ) (said : List ℕ) → IsInHand who before request sendings → sendings ≤ retries
@@ -85,7 +86,7 @@ pub data KeepsPromise (who : MasterId) (preambles retries : ℕ) (before : List 
   is_busy : (request : FrameParts) (sendings : ℕ) → IsInHand who before request sendings
       → KeepsPromise who preambles retries before line (codes "refused: a request is pending\n")
 
--- The lines and their answers are those of a session, and each answer keeps the promise.
+-- The lines and their answers are a session of this master, and each answer keeps the promise.
 pub record KeepsPromises (asker : LineMaster) (lines : List (List ℕ)) (text : List ℕ) : Type 0 where
   pub exchanges : List Exchange
   pub after : LineMaster

@@ -6,7 +6,7 @@ use Rattle.hart_cli.specs.Answer.{AnswerOutcome}
 use Rattle.hart_cli.specs.program.CommandLine.{Calls, call_of}
 use Rattle.hart_cli.specs.dump.Dump.{DumpOutcome}
 use Rattle.hart_cli.specs.encode.Encode.{EncodeOutcome}
-use Rattle.hart_cli.specs.explain.Explain.{ExplainOutcome, JsonOutcome, RawExplainOutcome, RawJsonOutcome}
+use Rattle.hart_cli.specs.explain.Explain.{ExplainOutcome}
 use Rattle.hart_cli.specs.FaultText.{fault_line}
 use Rattle.hart_cli.specs.master.Master.{MasterCallOutcome}
 use Rattle.hart_cli.specs.master.MasterWords.{AreInRange}
@@ -16,24 +16,18 @@ use Rattle.hart_cli.specs.sim.Sim.{SimOutcome}
 use Rattle.hart_cli.specs.stream.Stream.{Stream, WritesUnlessFailed}
 use Rattle.hart_cli.specs.declared.fault.CliFault.{CliFault}
 use Rattle.hart_cli.specs.declared.calls.program.command_line.Call.{Call}
-use Rattle.hart_cli.specs.declared.calls.program.command_line.Call.TheVariants.{Answer, Dump, Encode, Explain, ExplainJson, ExplainRaw}
-use Rattle.hart_cli.specs.declared.calls.program.command_line.Call.TheVariants.{ExplainRawJson, Master, Request, Serve, Sim}
+use Rattle.hart_cli.specs.declared.calls.program.command_line.Call.TheVariants.{Answer, Dump, Encode, Explain, Master, Request}
+use Rattle.hart_cli.specs.declared.calls.program.command_line.Call.TheVariants.{Serve, Sim}
 
--- A call returned this result, and left the reader and the writer as the outcome of its subcommand says. Calls of `encode` and `request` do
--- not touch the reader.
+-- A call returned this result, and left the reader and the writer as the outcome of its subcommand allows. `encode` and `request` do not
+-- touch the reader.
 abbrev pub CallOutcome : Call → Stream → Stream → Stream → Stream → Result (Unit {0}) CliFault → Type 0
 CallOutcome (Answer image) reader reader_after writer writer_after result =
     AnswerOutcome image reader reader_after writer writer_after result
 CallOutcome Dump reader reader_after writer writer_after result =
     DumpOutcome reader reader_after writer writer_after result
-CallOutcome Explain reader reader_after writer writer_after result =
-    ExplainOutcome reader reader_after writer writer_after result
-CallOutcome ExplainRaw reader reader_after writer writer_after result =
-    RawExplainOutcome reader reader_after writer writer_after result
-CallOutcome ExplainJson reader reader_after writer writer_after result =
-    JsonOutcome reader reader_after writer writer_after result
-CallOutcome ExplainRawJson reader reader_after writer writer_after result =
-    RawJsonOutcome reader reader_after writer writer_after result
+CallOutcome (Explain style is_raw) reader reader_after writer writer_after result =
+    ExplainOutcome style is_raw reader reader_after writer writer_after result
 CallOutcome (Serve image) reader reader_after writer writer_after result =
     ServeOutcome image reader reader_after writer writer_after result
 CallOutcome (Master words) reader reader_after writer writer_after result =
@@ -45,13 +39,13 @@ CallOutcome (Encode words) reader reader_after writer writer_after result =
 CallOutcome (Request words) reader reader_after writer writer_after result =
     (reader_after ≡ reader) × RequestOutcome words writer writer_after result
 
--- The status is 0 after a call that did its work, and 1 after a fault.
+-- The exit status is 0 after a call that did its work, and 1 after a fault.
 abbrev pub status_of : Result (Unit {0}) CliFault → ℕ
 status_of (Ok done) = 0
 status_of (Err fault) = 1
 
--- The program made the call that the words ask for, ended with the status of the call's result, and reported the call's fault, if
--- any.
+-- The program made the call that the words ask for, and ended with the status of the call's result. If the call had a fault, the program
+-- reported it.
 pub record Ran (words : List Text) (reader reader_after writer writer_after errors errors_after : Stream) (status : ℕ) : Type 0 where
   pub call : Call
   pub calls : Calls call words
@@ -62,7 +56,7 @@ pub record Ran (words : List Text) (reader reader_after writer writer_after erro
 
 -- Only private calls use the definitions from here on.
 
--- The program made the call of a subcommand with its matches. It ended, and reported a fault, as in `Ran`.
+-- The program made the call of a subcommand with these matches. The program ended, and reported a fault of the call, as `Ran` says.
 pub record Made (met : Option (Text × List Row)) (reader reader_after writer writer_after errors errors_after : Stream)
     (status : ℕ) : Type 0 where
   pub call : Call
@@ -72,8 +66,8 @@ pub record Made (met : Option (Text × List Row)) (reader reader_after writer wr
   pub ends : status ≡ status_of result
   pub reports : IfErr result (λ fault. WritesUnlessFailed errors errors_after (fault_line fault))
 
--- The numbers of a call are in range. A call of `encode`, `request` or `master` has 5 to 20 preamble bytes, the numbers that a sender may
--- use. A call of `master` has at most 15 retries, and a limit of at least 1. Any other call has no numbers.
+-- The numbers of a call are in range. `encode`, `request` and `master` send 5 to 20 preamble bytes. `master` has at most 15 retries, and a
+-- reply timeout of at least 1. Other calls have no numbers.
 abbrev pub HasNumbersInRange : Call → Type 0
 HasNumbersInRange (Encode words) = IsPreambleCount words.preambles
 HasNumbersInRange (Request words) = IsPreambleCount words.preambles

@@ -1,4 +1,4 @@
--- What a call writes that answers each line that it reads (implementation choice).
+-- The output of a call in which a station, a device or a master, answers each line that it reads (implementation choice).
 use Rattle.std.specs.Prelude.{◌≡◌, ◌⊎◌, ℕ, ◌/◌, ◌+◌, List, [], ◌∷◌, ◌++◌, Option, None, Some, Ok, Err, codes, if◌then◌else◌, length, nat_le}
 use Rattle.hart_line.specs.script.Lines.{lines_of}
 use Rattle.hart_line.specs.declared.memory.NoRoom.{NoRoom}
@@ -9,7 +9,7 @@ use Rattle.hart_cli.specs.input.Input.{CameTo, Ending, Left, ReadsToWithin, inpu
 use Rattle.hart_cli.specs.input.LiveInput.{WroteInTime}
 use Rattle.hart_cli.specs.stream.Stream.{FailsToWrite, Stream, WritesAll}
 
--- What a station reads of a line: the whole line, or nothing of a line of more than 1,048,576 bytes, which is too long.
+-- What a station reads of a line: the whole line, or nothing if the line is too long. A line of more than 1,048,576 bytes is too long.
 abbrev pub line_read : List ℕ → Option (List ℕ)
 line_read line = if nat_le (length line) input_limit then Some line else None
 
@@ -17,23 +17,25 @@ line_read line = if nat_le (length line) input_limit then Some line else None
 abbrev pub bad_line : List ℕ → List ℕ
 bad_line reason = codes "bad line: " ++ reason ++ 10 ∷ []
 
--- How a station answers one line: its state before, what it reads of the line, its state afterwards, and its answer.
+-- A relation between a station's state before a line, what it reads of the line, its state afterwards, and its answer.
 abbrev pub Manner : Type 0 → Type 1
 Manner Station = Station → Option (List ℕ) → Station → List ℕ → Type 0
 
--- A station serves lines one after another, each in the state that the earlier lines led to.
+-- A station answers lines one after another, each in the state to which the earlier lines led.
 pub data Serves {Station : Type 0} (ServesLine : Manner Station) : Station → List (List ℕ) → Station → List ℕ → Type 0 where
   nothing : (station : Station) → Serves ServesLine station [] station []
   first : (station next after : Station) (line : List ℕ) (lines : List (List ℕ)) (said text : List ℕ)
       → ServesLine station (line_read line) next said → Serves ServesLine next lines after text
       → Serves ServesLine station (line ∷ lines) after (said ++ text)
 
--- The last line of a text, which has no line feed after it, is served if the input ended and the line is not empty.
+-- The list with the last line of an input, after which no line feed stands. If the input has not ended, or if the line is empty, the list
+-- is empty.
 abbrev pub last_lines : Ending → List ℕ → List (List ℕ)
 last_lines (CameTo Ended) (byte ∷ more) = (byte ∷ more) ∷ []
 last_lines ending last = []
 
--- The lines of an input are split like the lines of a script. `last_lines` says whether the last line counts.
+-- The lines of an input that are answered. The input is split at its line feeds, as a script is, and `last_lines` says whether the last
+-- line is answered.
 pub record HasLines (input : List ℕ) (ending : Ending) (lines : List (List ℕ)) : Type 0 where
   pub whole : List (List ℕ)
   pub last : List ℕ
@@ -48,7 +50,7 @@ pub record IsServed {Station : Type 0} (ServesLine : Manner Station) (station : 
   pub after : Station
   pub serves : Serves ServesLine station lines after text
 
--- An input was read to this ending, and the station's answers to all lines that `HasLines` gives for this ending were written.
+-- An input was read to this ending. The station's answers to all lines in `HasLines` were written.
 pub record ServesTo {Station : Type 0} (ServesLine : Manner Station) (station : Station) (ending : Ending)
     (reader reader_after writer writer_after : Stream) : Type 0 where
   pub input : List ℕ
@@ -61,8 +63,8 @@ pub record ServesTo {Station : Type 0} (ServesLine : Manner Station) (station : 
 abbrev pub IsServedSoFar : {Station : Type 0} → Manner Station → Station → List ℕ → List ℕ → Type 0
 IsServedSoFar ServesLine station input text = IsServed ServesLine station input Left text
 
--- A write failed within the station's answers to some first lines. A prefix of these answers was written, but not all of them. No answer
--- was late: the answers to the whole lines of the input without its last bytes were written, as `WroteInTime` says.
+-- A write failed within the station's answers to the first lines. A prefix of these answers was written, but not all of them. The answers
+-- to the whole lines were written in time, as `WroteInTime` says.
 pub record StopsSaying {Station : Type 0} (ServesLine : Manner Station) (station : Station)
     (reader reader_after writer writer_after : Stream)
     : Type 0 where
@@ -78,24 +80,24 @@ pub record StopsSaying {Station : Type 0} (ServesLine : Manner Station) (station
   pub fails : FailsToWrite writer writer_after text
   pub in_time : WroteInTime (IsServedSoFar ServesLine station) input writer writer_after
 
--- Room for a line: the greatest number of bytes that a line may have, and three more. These three are for a byte that shows that the line
--- is too long, for a carriage return, and for the space that makes the last item whole.
+-- How many bytes of memory a line needs: the greatest number of bytes that a line may have, and three more. The first of the three is for a
+-- byte that shows that the line is too long. The second is for a carriage return. The third is for the space that completes the last item.
 abbrev pub line_room : ℕ
 line_room = input_limit + 3
 
--- Room for the characters of a line: one character for every two bytes that the line may have.
+-- How many characters of memory a line needs: one for every two bytes that the line may have.
 abbrev pub chars_room : ℕ
 chars_room = input_limit / 2
 
--- Room for a line or for its characters was refused, and nothing was read or written.
+-- Memory for a line or for its characters was refused, and nothing was read or written.
 pub record LacksLineRoom (none : NoRoom) (reader reader_after writer writer_after : Stream) : Type 0 where
   pub refused : (none.items ≡ line_room) ⊎ (none.items ≡ chars_room)
   pub unread : reader_after ≡ reader
   pub unwritten : writer_after ≡ writer
 
--- At `Ok`, a call served its whole input. If a read failed, or the input was longer than the limit, the call served the whole lines that
--- it had read by then. If a write failed, the call wrote a prefix of the station's answers. If memory was refused, the call read nothing
--- and wrote nothing.
+-- At `Ok`, a call answered all lines of its input. If a read failed, or the input was longer than the limit, the call answered the whole
+-- lines that it had read before. If a write failed, the call wrote a prefix of the station's answers. If memory was refused, the call read
+-- nothing and wrote nothing.
 abbrev pub ServedOutcome : {Station : Type 0} → Manner Station → Station → OutcomeRelation
 ServedOutcome ServesLine station reader reader_after writer writer_after (Ok done) =
     ServesTo ServesLine station (CameTo Ended) reader reader_after writer writer_after

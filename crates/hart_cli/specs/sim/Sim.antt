@@ -1,4 +1,4 @@
--- What `hart sim` writes for what it reads (implementation choice).
+-- What `hart sim` writes for its input (implementation choice).
 use Rattle.std.specs.Prelude.{◌≡◌, ◌⊎◌, ◌<◌, ℕ, List, Option}
 use Rattle.hart_device.specs.Bench.{bench_process}
 use Rattle.hart_device.specs.Device.{DeviceState}
@@ -19,7 +19,7 @@ use Rattle.hart_cli.specs.ImageWord.{OutcomeWith, OutcomeRelation}
 use Rattle.hart_cli.specs.sim.Text.{IsNeededByDevice, IsNeededByFrame, IsNeededByOutcomes, sim_text}
 use Rattle.hart_cli.specs.input.WholeInput.{WholeOutcome}
 
--- A script starts with a device, the process values of the bench device, and two masters. Each master is idle, and sends a request
+-- The start of a script: a device, the process values of the bench device, and two masters. Each master has no request, and sends a request
 -- again at most three times.
 abbrev pub start_with : DeviceState → Start
 start_with device = record {
@@ -28,8 +28,8 @@ start_with device = record {
   retries = record { primary = 3; secondary = 3 };
 }
 
--- The text for an input has the frames that were spoken in its script, the outcome of each submission, and the device's counter and image
--- at the end of the script.
+-- The text for an input: the frames that were spoken in its script, the outcome of each submission, and the device's counter and image at
+-- the end of the script.
 pub record IsSimulation (device : DeviceState) (input text : List ℕ) : Type 0 where
   pub events : List LineEvent
   pub script : IsScript input events
@@ -39,7 +39,7 @@ pub record IsSimulation (device : DeviceState) (input text : List ℕ) : Type 0 
   pub led : Led (start_with device) events after outcomes spoken
   pub gives : text ≡ sim_text spoken outcomes after
 
--- An input is a script whose events have this fault.
+-- An input is a script whose events lead to this fault.
 pub record IsScriptWithFault (device : DeviceState) (input : List ℕ) (fault : LineFault) : Type 0 where
   pub events : List LineEvent
   pub script : IsScript input events
@@ -52,8 +52,8 @@ HasLineFault device input (line_faults.BadLine number) = HasFirstBadLine input n
 HasLineFault device input (line_faults.Undetected number leg) = IsScriptWithFault device input (line_faults.Undetected number leg)
 HasLineFault device input (line_faults.Memory none) = ⊥
 
--- Room for this number of bytes is needed at the end of a script: for the line of one of its submissions, or for the last two lines of its
--- text together. The number is at least 1.
+-- Memory for this number of bytes is needed at the end of a script: for the line of one submission, or for the last two lines together. The
+-- number is at least 1.
 pub record IsNeededByLastLines (start : Start) (events : List LineEvent) (items : ℕ) : Type 0 where
   pub after : DeviceState
   pub outcomes : List Outcome
@@ -62,8 +62,8 @@ pub record IsNeededByLastLines (start : Start) (events : List LineEvent) (items 
   pub needed : IsNeededByOutcomes outcomes items ⊎ IsNeededByDevice after items
   pub some : 0 < items
 
--- An input needs room for this number of items: to be read as a script, to have its events carried out, for the line of a spoken
--- frame, or for a line after the lines of all frames.
+-- An input needs memory for this number of bytes or other elements: to be read as a script, to have its events carried out, for the line of
+-- a spoken frame, or for a line after the spoken frames.
 abbrev pub IsNeededForSimulation : DeviceState → List ℕ → ℕ → Type 0
 IsNeededForSimulation device input items =
     IsNeededByText input items
@@ -72,15 +72,15 @@ IsNeededForSimulation device input items =
     ⊎ IsNeededByNoting IsNeededByFrame (start_with device) events items
     ⊎ IsNeededByLastLines (start_with device) events items))
 
--- `simulate` returns this fault for one of two reasons: the input has the fault in its lines or events, or memory was refused. If
--- memory was refused for a number of items, the input needs room for this number of items.
+-- The faults of `simulate` after it has read an input. Either the input has this fault in its lines or events. Or memory was refused for a
+-- number of elements that the input needs.
 abbrev pub IsSimulationFault : DeviceState → List ℕ → CliFault → Type 0
 IsSimulationFault device input (Line fault) = HasLineFault device input fault
 IsSimulationFault device input (Memory none) = IsNeededForSimulation device input none.items
 IsSimulationFault device input _ = ⊥
 
--- A call of `simulate` without a device returned the reason why it has none. A call with a device wrote the text for its whole
--- input at `Ok`, and a prefix of that text if a write failed. The call wrote nothing if a read failed, if the input was too long or
--- had a fault in its lines or events, or if memory was refused. It returns no other fault.
+-- If no device could be made from the image, a call of `simulate` returned the reason. Otherwise, at `Ok`, it wrote the text for its whole
+-- input. If a write failed, it wrote a prefix of that text. It wrote nothing if a read failed, if the input was too long or had a fault in
+-- its lines or events, or if memory was refused. It returns no other fault.
 abbrev pub SimOutcome : Option (List ℕ) → OutcomeRelation
 SimOutcome = OutcomeWith (λ device. WholeOutcome (IsSimulation device) (IsSimulationFault device))

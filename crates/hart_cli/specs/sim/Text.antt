@@ -13,7 +13,7 @@ use Rattle.hart_line.specs.declared.line.report.Party.TheVariants.{Device, Prima
 use Rattle.hart_line.specs.declared.line.report.Spoken.{Spoken}
 use Rattle.hart_cli.specs.text.Words.{bytes_word, line_of}
 
--- The word of a party is P for the primary master, S for the secondary and D for the device.
+-- The word of a party is P for the primary master, S for the secondary master and D for the device.
 abbrev pub party_word : Party → List ℕ
 party_word Primary = codes "P"
 party_word Secondary = codes "S"
@@ -24,9 +24,10 @@ abbrev pub spoken_line : Spoken → List ℕ
 spoken_line spoken =
     line_of (party_word spoken.party ∷ decimal spoken.preambles ∷ encode_upper spoken.bytes ∷ [])
 
--- An answered submission has the word `answered`, the number of its sendings, and the response code, the device status and the data
--- of the reply in upper case hex. A submission without a reply has `noreply`, and an unfinished submission has `unfinished`, each
--- with the number of its sendings. A refused submission has `refused` and the number of the fault. Numbers are in decimal.
+-- The words for the outcome of a submission. An answered submission has `answered`, the number of its sendings, and the response code, the
+-- device status and the data of the reply in upper case hex. A submission without a reply has `noreply`, and an unfinished submission has
+-- `unfinished`, each with the number of its sendings. A refused submission has `refused` and the number of the fault. Numbers are in
+-- decimal.
 abbrev pub outcome_words : Outcome → List (List ℕ)
 outcome_words (Answered reply sendings) =
     codes "answered" ∷ decimal sendings ∷ encode_upper (reply.code ∷ []) ∷ encode_upper (reply.status.0 ∷ [])
@@ -35,7 +36,7 @@ outcome_words (NoReply sendings) = codes "noreply" ∷ decimal sendings ∷ []
 outcome_words (Unfinished sendings) = codes "unfinished" ∷ decimal sendings ∷ []
 outcome_words (Refused fault) = codes "refused" ∷ decimal (master_fault_number fault) ∷ []
 
--- The line of a submission has its number in decimal and the words of its outcome.
+-- The line of a submission: its number in decimal, and the words of its outcome.
 abbrev pub outcome_line : ℕ × Outcome → List ℕ
 outcome_line numbered = line_of (decimal numbered.0 ∷ outcome_words numbered.1)
 
@@ -47,20 +48,20 @@ counter_line device = line_of (codes "counter" ∷ decimal device.counter ∷ []
 abbrev pub image_line : DeviceState → List ℕ
 image_line device = line_of (codes "image" ∷ encode_upper (image_of device) ∷ [])
 
--- The text has a line for each spoken frame, in order, then one for each submission, numbered from 1, then the line of the counter
--- and the line of the image.
+-- The text of `hart sim`: a line for each spoken frame, in order; a line for each submission, numbered from 1; the line of the counter; and
+-- the line of the image.
 abbrev pub sim_text : List Spoken → List Outcome → DeviceState → List ℕ
 sim_text spoken outcomes device =
     flat_map spoken_line spoken ++ flat_map outcome_line (enumerate_from 1 outcomes) ++ counter_line device ++ image_line device
 
--- A spoken frame needs room for the bytes of its line.
+-- The line of a spoken frame needs memory for this number of bytes.
 abbrev pub IsNeededByFrame : Spoken → ℕ → Type 0
 IsNeededByFrame frame items = items ≡ length (spoken_line frame)
 
--- One of these submissions needs room for the bytes of its line.
+-- The line of one of these submissions needs memory for this number of bytes.
 abbrev pub IsNeededByOutcomes : List Outcome → ℕ → Type 0
 IsNeededByOutcomes outcomes items = Any (λ numbered. items ≡ length (outcome_line numbered)) (enumerate_from 1 outcomes)
 
--- The device needs room for the bytes of the last two lines, which are added at once.
+-- The last two lines are appended together, and need memory for this number of bytes.
 abbrev pub IsNeededByDevice : DeviceState → ℕ → Type 0
 IsNeededByDevice device items = items ≡ length (counter_line device ++ image_line device)

@@ -1,4 +1,4 @@
--- The two parts of a `Plain` (implementation choice).
+-- The parts of a `Plain`: a reader or writer of the standard library, and a count of its failures (implementation choice).
 use Rattle.std.specs.Prelude.{ℕ}
 use Rattle.hart_cli.specs.declared.stream.plain.Plain.{Plain}
 

@@ -3,22 +3,22 @@ use Rattle.std.specs.Prelude.{◌≡◌, ◌≢◌, ◌⊎◌, ℕ, ◌+◌, ◌
 use Rattle.std.specs.Io.KnownBytes.{Appends, Keeps}
 use Rattle.hart_cli.specs.declared.stream.Failed.{Failed}
 
--- The count of failures after one more failure. A count of 2^64 - 1 stays as it is.
+-- The count of failures after one more failure. This count never exceeds 2^64 - 1.
 abbrev pub count_after_failure : ℕ → ℕ
 count_after_failure count = min (count + 1) (2 ^ 64 - 1)
 
--- What contracts see of a reader or a writer. `bytes` are the bytes left to read, or the bytes written so far, if they are known.
--- `failures` says how often the reader or writer has failed.
+-- What contracts see of a reader or a writer. `bytes` are the bytes that are left to read, or the bytes that were written, if they are
+-- known. `failures` says how often the reader or writer has failed.
 pub record Stream : Type 0 where
   pub bytes : Option (List ℕ)
   pub failures : ℕ
 
--- A failure is counted, and a success leaves the count as it was.
+-- A failed read or write raises the count of failures by one. Success leaves the count unchanged.
 abbrev pub CountsFailure : {T : Type 0} → Stream → Stream → Result T Failed → Type 0
 CountsFailure old new result =
     MatchResult result (λ _. new.failures ≡ old.failures) (λ _. new.failures ≡ count_after_failure old.failures)
 
--- A prefix of the text was written, but not all of it, and nothing else.
+-- A prefix of the text was written, but not all of the text.
 pub record WritesPrefix (old new : Option (List ℕ)) (text : List ℕ) : Type 0 where
   pub prefix : List ℕ
   pub rest : List ℕ
@@ -34,7 +34,7 @@ WritesAll old new text = Appends old.bytes new.bytes text × (new.failures ≡ o
 abbrev pub FailsToWrite : Stream → Stream → List ℕ → Type 0
 FailsToWrite old new text = WritesPrefix old.bytes new.bytes text × (new.failures ≡ count_after_failure old.failures)
 
--- At `Ok` the whole text was written. Otherwise a write failed after a prefix of the text was written.
+-- At `Ok` the whole text was written. Otherwise a write failed after a prefix of the text was written, but not all of it.
 abbrev pub Writes : {T E : Type 0} → Stream → Stream → List ℕ → Result T E → Type 0
 Writes old new text result = MatchResult result (λ _. WritesAll old new text) (λ _. FailsToWrite old new text)
 

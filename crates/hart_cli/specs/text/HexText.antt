@@ -3,7 +3,7 @@ use Rattle.std.specs.Prelude.{ℕ, List, [], ◌∷◌, ◌++◌, map}
 use Rattle.std.specs.List.{join_with_byte}
 use Rattle.hex.specs.Hex.{encode_upper}
 
--- The items of bytes are each byte in upper case hex, with one space between two of them.
+-- Bytes as items: each byte in upper case hex, with one space between two bytes.
 abbrev pub hex_items : List ℕ → List ℕ
 hex_items bytes = join_with_byte 32 (map (λ byte. encode_upper (byte ∷ [])) bytes)
 

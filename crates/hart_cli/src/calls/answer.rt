@@ -43,13 +43,13 @@ pub fn answer<R: Source, W: Sink>(
     answer_of(alloc, device, reader, writer)
 }
 
-/// A device has at most one answer to an input, so what `answer` writes is determined by its image and by what it reads.
+/// A device has at most one answer to an input. So the image of the call and the input determine what `answer` writes.
 pub fn one_answer()
     ensures { (device : DeviceState) (input xs ys : List ℕ)
         → IsAnswer device input xs → IsAnswer device input ys → xs ≡ ys }
 {}
 
-/// Reads a delivery, and writes what a device answers to it.
+/// Reads a delivery, and writes the device's answer to this delivery.
 fn answer_of<R: Source, W: Sink>(
     alloc: Global,
     device: Device<ImageRegisters>,

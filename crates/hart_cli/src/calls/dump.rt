@@ -11,8 +11,7 @@ use crate::input::ahead::{Ahead, NextStep, Open, next_step, read_ahead};
 use crate::input::{INPUT_LIMIT, PORTION_LEN};
 use crate::output::write_all;
 use crate::stream::{Failed, Sink, Source};
-use crate::text::chunk::Chunk;
-use hart_line::Digits;
+use hart_text::{Chunk, Digits};
 use std::alloc::Global;
 
 mod frame_lines;
@@ -20,16 +19,16 @@ mod text;
 
 /// Reads the characters heard on a HART line as hex items, and writes a line of text for each frame.
 ///
-/// The call reads a portion at a time. If a write fails, only lines that were decided by the last 16,384 bytes read can be missing. The
-/// contract says no more about when a line is written. Tests show that before each read the lines of all frames decided by then are
-/// written. So a live HART line is dumped while it is heard, up to the limit of an input. The call allocates nothing. It
-/// takes an allocator only to be called like the other calls.
+/// The call reads a portion at a time. If a write fails, all lines that were decided before the last 16,384 bytes read have been written.
+/// The contract says no more about when a line is written. Tests show that, before each read, the lines of all frames decided so far are
+/// written. So a live HART line is dumped while it is heard, up to [`INPUT_LIMIT`] bytes. The call allocates nothing. It takes an allocator
+/// only to be called like the other calls.
 ///
 /// # Errors
 ///
-/// The first fault of the input, in the order of its bytes: [`CliFault::Read`], [`CliFault::TooLong`] or [`CliFault::BadHex`]. The
-/// lines of the frames before the fault are written first, and nothing is read after it. At the first write that fails the fault is
-/// [`CliFault::Write`]: a prefix of the lines of what was scanned by then is written.
+/// The first fault of the input, in the order of its bytes: [`CliFault::Read`], [`CliFault::TooLong`] or [`CliFault::BadHex`]. The lines of
+/// the frames before the fault are written first, and nothing is read after the fault. If a write fails, the fault is [`CliFault::Write`],
+/// and only a prefix of the lines for the characters scanned so far is written.
 pub fn dump<R: Source, W: Sink>(
     _alloc: Global,
     reader: &mut R,
@@ -49,8 +48,8 @@ pub fn dump<R: Source, W: Sink>(
     }
 }
 
-/// The bytes read of an input have at most one fault and one list of lines. So unless a write fails, what `dump` writes is
-/// determined by what it reads.
+/// The bytes read from an input have at most one fault and one list of lines. So, unless a write fails, what `dump` reads determines what
+/// it writes.
 pub fn one_dump()
     ensures { (input : List ℕ) (ending : Ending) (f g : Option CliFault) (xs ys : List ℕ)
         → IsDump input ending f xs → IsDump input ending g ys → (f ≡ g) × (xs ≡ ys) }

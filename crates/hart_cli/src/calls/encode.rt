@@ -22,7 +22,7 @@ pub struct EncodeWords<'a> {
     pub address: &'a str,
     /// COMMAND, the number of the command.
     pub command: &'a str,
-    /// DATA, empty if it is absent.
+    /// DATA, or the empty word if DATA is absent.
     pub payload: &'a str,
     /// How many preamble bytes the message begins with, from 5 to 20.
     pub preambles: u8,
@@ -42,7 +42,7 @@ impl<'a> Model for EncodeWords<'a> {
     } };
 }
 
-/// Writes the request that four words describe, with this number of preamble bytes, as one line of hex.
+/// Writes one line of hex: the message of the request that the four words describe. `preambles` is the message's number of preamble bytes.
 ///
 /// The request is an STX with burst bit 0 and no expansion bytes. An absent DATA is the empty word.
 ///

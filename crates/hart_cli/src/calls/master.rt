@@ -1,4 +1,4 @@
-//! `hart master`: a master that answers line after line.
+//! `hart master`: a master that answers each line that it reads.
 ghost use Rattle.std.specs.Prelude.{◌≡◌, ℕ, List};
 ghost use Rattle.hart_cli.specs.master.Line.{LineMaster, ServesMasterLine};
 ghost use Rattle.hart_cli.specs.master.Master.{AreSettings, MasterCallOutcome, MasterOutcome, new_master, usual_limit};
@@ -21,10 +21,10 @@ pub mod ask;
 mod line;
 mod words;
 
-/// What a session of `hart master` starts with.
+/// The settings of a session of `hart master`.
 #[derive(Clone, Copy, Debug)]
 pub struct MasterSettings {
-    /// Which of the two masters it is.
+    /// Which of the two masters answers the lines.
     pub who: MasterId,
     /// How often a request is sent again, at most 15 times.
     pub retries: u8,
@@ -34,10 +34,10 @@ pub struct MasterSettings {
     pub preambles: u8,
 }
 
-/// What `hart master` was given.
+/// The word and the numbers that `hart master` was given.
 #[derive(Drop)]
 pub struct MasterWords<'a> {
-    /// WHO, which of the two masters it is.
+    /// WHO, which of the two masters answers the lines.
     pub who: &'a str,
     /// How often a request is sent again, at most 15 times.
     pub retries: u8,
@@ -68,21 +68,22 @@ impl<'a> Model for MasterWords<'a> {
 ///   sendings, and the payload of the reply in hex. Otherwise it is `-`.
 /// - `submit ADDRESS COMMAND [DATA]` and `ask ADDRESS COMMAND [NAME=VALUE..]`: the master takes a request in hand, given as in
 ///   [`encode_text`](crate::encode_text) and [`request`](crate::request). The answer is `ok`, or `refused:` and the fault of the master.
-/// - `send`: the answer is `send` and the message that is due, or `-` if none is due. From then on its reply is awaited.
-/// - `tick N`: so many character times pass, at most 255. The answer is `retry` if the request is due again, `noreply` and the number of
-///   sendings if it is given up, and otherwise `-`.
+/// - `send`: the answer is `send` and the message that is due, or `-` if none is due. From then on the master awaits the reply to this
+///   message.
+/// - `tick N`: N character times of silence pass, at most 255. The answer is `retry` if the request is due again, `noreply` and the number
+///   of sendings if the request is given up, and otherwise `-`.
 ///
-/// Words have spaces between them. If a line has a tab, they have tabs between them instead, and a value can have spaces. A line has at
-/// most 64 words and 1,048,576 bytes. Any other line gives `bad line:` and the reason, and changes nothing.
+/// Words are separated by spaces. In a line with a tab, the words are separated by tabs instead, so that a value can have spaces. A line
+/// has at most 64 words and 1,048,576 bytes. Any other line gives `bad line:` and the reason, and changes nothing.
 ///
 /// As in [`serve`](crate::serve), the answers to all whole lines read so far are written before each read. All memory is allocated before
 /// the first line is read.
 ///
 /// # Errors
 ///
-/// [`CliFault::Memory`] if memory for a line is refused. Then nothing is read. After that [`CliFault::Read`], and [`CliFault::TooLong`] at
-/// an input of more than 2^64 - 1 bytes: the answers to the whole lines before the fault are written. If a write fails, the fault is
-/// [`CliFault::Write`], and a prefix of the answers to what was read by then is written.
+/// [`CliFault::Memory`] if memory for a line is refused; then nothing is read. [`CliFault::Read`] if a read fails, and
+/// [`CliFault::TooLong`] if the input has more than 2^64 - 1 bytes; then the answers to all whole lines before the fault are written.
+/// [`CliFault::Write`] if a write fails; then only a prefix of the answers to the lines read so far is written.
 pub fn master<R: Source, W: Sink>(
     alloc: Global,
     settings: MasterSettings,
@@ -94,7 +95,7 @@ pub fn master<R: Source, W: Sink>(
         (R.stream reader.old) (R.stream reader.new)
         (W.stream writer.old) (W.stream writer.new)
         result }
-    // Each session that begins with these settings keeps the promise.
+    // Each session that begins with these settings keeps the promise of `KeepsPromises`.
     ensures promise { (lines : List (List ℕ)) (after : LineMaster) (text : List ℕ)
         → Serves ServesMasterLine (new_master settings) lines after text → KeepsPromises (new_master settings) lines text }
 {
@@ -112,7 +113,7 @@ pub fn one_session()
 ///
 /// # Errors
 ///
-/// [`CliFault::BadWord`] with the number 1 if WHO is neither `P` nor `S`. Then nothing is read. After that the errors of [`master`].
+/// [`CliFault::BadWord`] with the number 1 if WHO is neither `P` nor `S`; then nothing is read. Otherwise the errors of [`master`].
 pub fn master_by_words<R: Source, W: Sink>(
     alloc: Global,
     words: &MasterWords<'_>,
@@ -137,7 +138,7 @@ pub fn master_by_words<R: Source, W: Sink>(
     master(alloc, settings, reader, writer)
 }
 
-/// Returns for how many character times a master of `hart sim` awaits a reply.
+/// Returns how many character times a master of `hart sim` waits for a reply.
 fn usual_limit(who: MasterId) -> u8
     ensures { result ≡ usual_limit who }
 {

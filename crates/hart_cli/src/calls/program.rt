@@ -1,4 +1,4 @@
-//! The program: which call its words make, and with which status it ends.
+//! The program: the call that its command line asks for, and its exit status.
 
 ghost use Rattle.std.specs.Prelude.{◌≡◌, ◌≢◌, IfErr, None, map, string_bytes};
 ghost use Rattle.clap.specs.Words.{subcommand_rows_of};
@@ -15,7 +15,7 @@ pub mod laws;
 use crate::calls::answer::answer;
 use crate::calls::dump::dump;
 use crate::calls::encode::{EncodeWords, encode_text};
-use crate::calls::explain::{explain, explain_json, explain_raw, explain_raw_json};
+use crate::calls::explain::explain;
 use crate::calls::master::master_by_words;
 use crate::calls::request::request;
 use crate::calls::serve::serve;
@@ -35,17 +35,16 @@ pub const DONE: u8 = 0;
 /// The status of a call that ended with a fault.
 pub const FAULT: u8 = 1;
 
-/// The status if the words name no call, ask for help or the version, or are not read because memory was refused.
+/// The status if no call is made: the words name no call, or ask for help or the version, or memory for reading them was refused.
 pub const NO_CALL: u8 = 2;
 
 /// Makes the call that the words after the program's name ask for, and returns the program's status.
 ///
 /// `answer`, `dump`, `explain`, `serve`, `master` and `sim` read from `reader` and write to `writer`; `encode` and `request` read only
-/// their words.
-/// At status 0 nothing goes to `errors`. At status 1 the line of the call's fault goes to `errors`, or a beginning of that line if `errors`
-/// failed. Status 2 means that clap found no matches for the words, but no clause of the contract promises this meaning. At status 2 the
-/// reader and the writer are not touched, and clap's own text goes to `errors`, even if the text is help. No clause says what this text is.
-/// A failed write to `errors` ends the text there, and does not change the status.
+/// their words. At status 0 nothing goes to `errors`. At status 1 the line of the call's fault goes to `errors`, or a beginning of that
+/// line if `errors` failed. Status 2 means that clap found no matches for the words, but no clause of the contract promises this meaning.
+/// At status 2 the reader and the writer are not touched, and clap's own text goes to `errors`, even if the text is help. No clause says
+/// what this text is. A failed write to `errors` ends the text there, and does not change the status.
 pub fn program<R: Source, W: Sink, E: Sink>(
     alloc: Global,
     words: &[String],
@@ -91,7 +90,7 @@ fn make_matched_call<R: Source, W: Sink, E: Sink>(
 {
     match call_of(matches) {
         Some(call) => finish(make_call(alloc, call, reader, writer), errors),
-        // clap's contract leaves this case open, but it never happens.
+        // clap's contract leaves this case open, but the case never happens.
         None => NO_CALL,
     }
 }
@@ -112,10 +111,7 @@ fn make_call<R: Source, W: Sink>(
     match call {
         Call::Answer(image) => answer(alloc, image.word, reader, writer),
         Call::Dump => dump(alloc, reader, writer),
-        Call::Explain => explain(alloc, reader, writer),
-        Call::ExplainRaw => explain_raw(alloc, reader, writer),
-        Call::ExplainJson => explain_json(alloc, reader, writer),
-        Call::ExplainRawJson => explain_raw_json(alloc, reader, writer),
+        Call::Explain { style, is_raw } => explain(alloc, style, is_raw, reader, writer),
         Call::Serve(image) => serve(alloc, image.word, reader, writer),
         Call::Master(words) => master_by_words(alloc, &words, reader, writer),
         Call::Sim(image) => simulate(alloc, image.word, reader, writer),

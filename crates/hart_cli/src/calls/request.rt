@@ -1,28 +1,21 @@
-//! `hart request`: a message to send, by the names of its fields.
+//! `hart request`: a message to send, made from named fields.
 ghost use Rattle.std.specs.Prelude.{◌≡◌, ℕ, List, [], map};
 ghost use Rattle.std.specs.Option.{option_map_or};
 ghost use Rattle.hart_frame.specs.wire.Message.{IsPreambleCount};
 ghost use Rattle.hart_cli.specs.request.Request.{HasBadField, IsFirstBadWord, IsRequestText, ReadOutcome, RequestOutcome};
-ghost use Rattle.hart_cli.specs.request.Fields.{payload_of};
-ghost use Rattle.hart_cli.specs.request.RequestWords.{RequestWords as Given};
-ghost use Rattle.hart_cli.specs.declared.calls.request.fault.BadField.{BadField};
+ghost use Rattle.hart_request.specs.Fields.{payload_of};
+ghost use Rattle.hart_request.specs.RequestWords.{RequestWords as Given};
+ghost use Rattle.hart_request.specs.declared.fault.BadField.{BadField};
 
-use crate::calls::request::fault::BadField;
-use crate::calls::request::fields::payload_of;
 use crate::fault::CliFault;
 use crate::output::write_all;
 use crate::stream::Sink;
 use crate::text::message_line::message_line;
 use hart_frame::{Frame, Payload};
 use hart_line::{read_address, read_command, read_who};
+use hart_request::{BadField, payload_of};
 use std::alloc::Global;
 use std::marker::Model;
-
-pub mod fault;
-mod fields;
-pub mod laws;
-pub mod reason;
-mod values;
 
 /// What `hart request` was given.
 #[derive(Drop)]
@@ -33,7 +26,7 @@ pub struct RequestWords<'w, 'a: 'w> {
     pub address: &'a str,
     /// COMMAND, the number of the command.
     pub command: &'a str,
-    /// NAME=VALUE, once for each field of the command; `None` if there are none.
+    /// NAME=VALUE, once for each field of the command; `None` if no such words are given.
     pub fields: Option<&'w [&'a str]>,
     /// How many preamble bytes the message begins with, from 5 to 20.
     pub preambles: u8,
@@ -42,7 +35,7 @@ pub struct RequestWords<'w, 'a: 'w> {
 impl<'w, 'a: 'w> Model for RequestWords<'w, 'a> {
     ghost use Rattle.std.specs.Prelude.{[], map};
     ghost use Rattle.std.specs.Option.{option_map_or};
-    ghost use Rattle.hart_cli.specs.request.RequestWords.{RequestWords};
+    ghost use Rattle.hart_request.specs.RequestWords.{RequestWords};
 
     ghost Value = { RequestWords };
 
@@ -63,9 +56,9 @@ impl<'w, 'a: 'w> Model for RequestWords<'w, 'a> {
 ///
 /// # Errors
 ///
-/// [`CliFault::BadWord`] with the number of the first bad word: 1 is WHO, 2 ADDRESS, 3 COMMAND. If these three are good,
-/// but a word of the fields is bad, [`CliFault::BadField`]. If a word is bad, nothing is written. The fault is [`CliFault::Write`] if no
-/// word is bad, but a write fails. At `Write` a prefix of the line is written, but not all of it. Nothing is allocated.
+/// [`CliFault::BadWord`] with the number of the first bad word: 1 is WHO, 2 ADDRESS, 3 COMMAND. The fault is [`CliFault::BadField`] if
+/// these three are good, but a word of the fields is bad. If a word is bad, nothing is written. The fault is [`CliFault::Write`] if no word
+/// is bad, but a write fails. At `Write` a prefix of the line is written, but not all of it. Nothing is allocated.
 pub fn request<W: Sink>(
     _alloc: Global,
     words: &RequestWords<'_, '_>,
@@ -112,7 +105,7 @@ pub fn read_request(words: &RequestWords<'_, '_>) -> Result<Frame, CliFault>
     Ok(Frame::request(master, address, command, payload))
 }
 
-/// Returns the data that the words for its fields give a request of this command. No words are like an empty list of words.
+/// Returns the data of this command's request, from the words for its fields. `None` stands for no words.
 fn payload_of_any(command: u8, fields: Option<&[&str]>) -> Result<Payload, BadField>
     ensures { result ≡ payload_of command (option_map_or (λ words. map (λ word. word.now) words.now) fields.entry []) }
 {

@@ -19,21 +19,21 @@ mod line;
 
 /// Reads lines until the input ends, and writes the answer to each line.
 ///
-/// If a write fails, only answers to lines that end within the last 16,384 bytes read can be missing. The contract says no more about when
-/// an answer is written. Tests show that before each read the answers to all whole lines read by then are written.
+/// If a write fails, the answers to all lines that ended before the last 16,384 bytes read have been written. The contract says no more
+/// about when an answer is written. Tests show that, before each read, the answers to all whole lines read so far are written.
 ///
 /// The bench device hears all items of a line at once. The line written for them is the reply in hex, or `-` for silence. `restart`,
 /// `protect on` and `protect off` give `ok`, `image` gives the image of the device, and `counter` its counter. Any other line, or a line of
 /// more than 1,048,576 bytes, gives `bad line:` and the reason, and changes nothing. If the caller gives an image, as a word of hex, the
-/// device starts from that image. All memory is allocated before the first line is read. Words must be exactly as here, because programs
-/// write them. No line sets an image: another process can start from it.
+/// device starts from that image. All memory is allocated before the first line is read. Words must be spelled exactly as here: programs
+/// write the lines, so no other spellings are needed. No line sets an image; to go on from an image, start another process with it.
 ///
 /// # Errors
 ///
-/// The first faults are [`CliFault::BadHex`] and [`CliFault::Image`] of the image, and [`CliFault::Memory`] if memory for the image or for
-/// a line is refused. At these faults nothing is read. Then come [`CliFault::Read`], and [`CliFault::TooLong`] at an input of more than
-/// 2^64 - 1 bytes. At these two faults, the answers to the whole lines before the fault are written. If a write fails, the fault is
-/// [`CliFault::Write`], and a prefix of the answers to what was read by then is written.
+/// [`CliFault::BadHex`] and [`CliFault::Image`] if the image has a fault, and [`CliFault::Memory`] if memory for the image or for a line is
+/// refused; then nothing is read. [`CliFault::Read`] if a read fails, and [`CliFault::TooLong`] if the input has more than 2^64 - 1 bytes;
+/// then the answers to all whole lines before the fault are written. [`CliFault::Write`] if a write fails; then only a prefix of the
+/// answers to the lines read so far is written.
 pub fn serve<R: Source, W: Sink>(
     alloc: Global,
     image: Option<&str>,
@@ -55,7 +55,7 @@ pub fn one_service()
         → IsServed ServesLine device input ending xs → IsServed ServesLine device input ending ys → xs ≡ ys }
 {}
 
-/// Serves the lines of an input with a device.
+/// Reads the lines of an input, and writes the device's answer to each.
 fn serve_with<R: Source, W: Sink>(
     alloc: Global,
     device: Device<ImageRegisters>,

@@ -1,4 +1,4 @@
-//! `hart sim`: what a script leads to, on a line with the bench device and two masters.
+//! `hart sim`: a script, carried out on a line with the bench device and two masters.
 ghost use Rattle.std.specs.Prelude.{◌≡◌, ℕ, List, IfErr, IfOk};
 ghost use Rattle.std.specs.Option.{option_map};
 ghost use Rattle.hart_device.specs.Device.{DeviceState};
@@ -29,9 +29,8 @@ pub const PRIMARY_REPLY_LIMIT: u8 = 33;
 /// The reply timeout of the secondary master, in character times.
 pub const SECONDARY_REPLY_LIMIT: u8 = 41;
 
-/// Reads a script, carries it out with the bench device and two masters, and writes what was spoken, what became of each
-/// submission, and what the device holds at the end. If the caller gives an image, as a word of hex, the device goes on from that
-/// image.
+/// Reads a script, and carries it out with the bench device and two masters. Writes what was spoken, the outcome of each submission, and
+/// what the device holds at the end. If the caller gives an image, as a word of hex, the device starts from that image.
 ///
 /// # Errors
 ///
@@ -55,8 +54,8 @@ pub fn simulate<R: Source, W: Sink>(
     simulate_with(alloc, device, reader, writer)
 }
 
-/// With a given device, an input has at most one text and at most one fault, never both. So the text that `simulate` writes, or the
-/// script's fault that it returns, is determined by its image and by what it reads.
+/// With a given device, an input has at most one text and at most one fault, but never both. So the image of the call and the input
+/// determine the text that `simulate` writes, or the script's fault that it returns.
 pub fn one_simulation()
     ensures one_text { (device : DeviceState) (input xs ys : List ℕ)
         → IsSimulation device input xs → IsSimulation device input ys → xs ≡ ys }
@@ -84,7 +83,7 @@ fn simulate_with<R: Source, W: Sink>(
     Ok(())
 }
 
-/// Returns the text for an input, with a device.
+/// Carries out the script of an input with this device, and returns its text.
 ///
 /// # Errors
 ///

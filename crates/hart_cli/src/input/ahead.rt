@@ -1,17 +1,16 @@
 //! The bytes of an input that are read but not yet decoded.
 ghost use Rattle.std.specs.Prelude.{◌≡◌, ◌<◌, ◌≤◌, ◌+◌, ◌-◌, IsTrue, Some, length};
+ghost use Rattle.hart_text.specs.Heard.{NothingBegins};
+ghost use Rattle.hart_text.specs.Items.{MayBegin, NoPieceBegins, Opens};
 ghost use Rattle.hart_cli.specs.declared.fault.CliFault.TheVariants.{BadHex};
 ghost use Rattle.hart_cli.specs.declared.input.ahead.NextStep.TheVariants.{ReadOn, Stop};
 ghost use Rattle.hart_cli.specs.input.Ahead.{IsNextStep, ReadsAhead, ended_length};
 ghost use Rattle.hart_cli.specs.input.Input.{most_at_once};
-ghost use Rattle.hart_cli.specs.text.Heard.{NothingBegins};
-ghost use Rattle.hart_cli.specs.text.Items.{MayBegin, NoPieceBegins, Opens};
 
 use crate::fault::CliFault;
 use crate::input::{InputEnd, PORTION_LEN, Portion, read_portion};
 use crate::stream::Source;
-use crate::text::items::may_begin;
-use crate::text::marks::{DATE_LEN, may_open};
+use hart_text::{DATE_LEN, may_begin, may_open};
 use hart_values::ByteList;
 
 /// The beginning of an item that is not yet whole: at most five bytes.
@@ -25,22 +24,22 @@ pub type Ahead = ByteList<AHEAD_LEN>;
 
 const AHEAD_LEN: usize = OPEN_LEN + PORTION_LEN;
 
-/// The beginning of an item or of a mark that is not yet whole: at most a `@` and the word of a date.
+/// The beginning of an item or a date that is not yet whole. The longest is a `@` and the word of a date.
 pub type HeardOpen = ByteList<HEARD_OPEN_LEN>;
 
 const HEARD_OPEN_LEN: usize = 1 + DATE_LEN;
 
-/// As `Ahead`, for an input with marks.
+/// Like [`Ahead`], for an input that may have silences and dates.
 pub type HeardAhead = ByteList<HEARD_AHEAD_LEN>;
 
 const HEARD_AHEAD_LEN: usize = HEARD_OPEN_LEN + PORTION_LEN;
 
-/// The next step, once what was read is decoded.
+/// What the call does next, after it has decoded what was read.
 #[derive(Clone, Copy)]
 pub enum NextStep {
-    /// More is read.
+    /// Read more.
     ReadOn,
-    /// No more is read, because the input ended, or has this fault.
+    /// Read no more, because the input ended or has this fault.
     Stop(Option<CliFault>),
 }
 
@@ -63,7 +62,7 @@ pub fn read_ahead<R: Source, const N: usize>(
 {
     let portion = read_portion(reader, buffer, room);
     if portion.end == Some(InputEnd::Ended) {
-        // An end gives no bytes, and makes the last item whole, as a space does.
+        // The end of an input gives no bytes, and completes the last item, as a space does.
         ahead.push(b' ');
     } else {
         ahead.extend_from_slice(&buffer[..portion.len]);
@@ -71,8 +70,8 @@ pub fn read_ahead<R: Source, const N: usize>(
     portion
 }
 
-/// Returns the next step after `read` bytes of an input of items. `rest` is what follows the last piece in these bytes. `end` says
-/// how the input ended, if it did.
+/// Returns the next step after `read` bytes of an input of items. `rest` is the part of these bytes that is not decoded. `end` says how the
+/// input ended, if it did.
 pub fn next_step(end: Option<InputEnd>, rest: &[u8], read: usize) -> NextStep
     requires stops { NoPieceBegins rest.now }
     requires within { length rest.now ≤ ended_length end read }
@@ -82,7 +81,7 @@ pub fn next_step(end: Option<InputEnd>, rest: &[u8], read: usize) -> NextStep
     step_from(end, rest, may_begin(rest), read)
 }
 
-/// As [`next_step`], for an input with marks.
+/// Like [`next_step`], for an input that may have silences and dates.
 pub fn next_heard_step(end: Option<InputEnd>, rest: &[u8], read: usize) -> NextStep
     requires stops { NothingBegins rest.now }
     requires within { length rest.now ≤ ended_length end read }
@@ -92,8 +91,8 @@ pub fn next_heard_step(end: Option<InputEnd>, rest: &[u8], read: usize) -> NextS
     step_from(end, rest, may_open(rest), read)
 }
 
-/// Returns the next step after `read` bytes of an input. `rest` is the part of these bytes that is not decoded. `is_open` says whether
-/// `rest` can begin with a piece or a mark once more bytes are added to its end.
+/// Returns the next step after `read` bytes of an input. `rest` is the part of these bytes that is not decoded. `is_open` says whether more
+/// bytes can complete the beginning of `rest`.
 fn step_from(end: Option<InputEnd>, rest: &[u8], is_open: bool, read: usize) -> NextStep
     requires { length rest.now ≤ ended_length end read }
     ensures { IsNextStep (λ _. IsTrue is_open) end rest.now (ended_length end read - length rest.now) result }

@@ -1,5 +1,4 @@
-//! A server: a station that answers lines. It keeps the bytes of the next line that were read so far, and its answers until they are
-//! written.
+//! A server: a station, the first bytes of the line that is being read, and the answers that are not yet written.
 ghost use Rattle.std.specs.Prelude.{◌≡◌, ◌≤◌, ◌↔◌, ◌+◌, ◌++◌, ◌∷◌, [], ℕ, List, IfErr, IfOk, IsTrue, MatchOption, OnOk, codes, length};
 ghost use Rattle.std.specs.Prelude.{take};
 ghost use Rattle.std.specs.Str.Lines.{strip_carriage_return};
@@ -21,15 +20,15 @@ use std::marker::Model;
 /// or more is a line that is too long, even if its last byte is a carriage return.
 const MOST_KEPT: usize = INPUT_LIMIT + 2;
 
-/// The room for a part, and for the space after its line.
+/// The size of the buffer for a part and for the space after its line.
 const LINE_ROOM: usize = MOST_KEPT + 1;
 
-/// A station that serves lines.
+/// A station with its buffers.
 #[derive(Drop)]
 pub struct Server<S> {
     /// The station that answers the lines.
     station: S,
-    /// The first bytes that were read since the last line feed.
+    /// The bytes that were read since the last line feed, or the first [`MOST_KEPT`] of them.
     part: Filling<u8>,
     /// The answers that are not yet written.
     kept: Kept,
@@ -48,7 +47,7 @@ impl<S> Model for Server<S> {
 }
 
 impl<S: Station + Drop> Server<S> {
-    /// Allocates the room that serving needs.
+    /// Makes a server with this station, and allocates the buffer for a line.
     ///
     /// # Errors
     ///
@@ -65,8 +64,8 @@ impl<S: Station + Drop> Server<S> {
         })
     }
 
-    /// Adds `more`, the next bytes of an input, to the kept part. Serves the lines that are whole now, and writes the answers.
-    /// Keeps the rest.
+    /// Adds `more`, the next bytes of an input, to the kept part. Lets the station answer the lines that are whole now, and writes the
+    /// answers. Keeps the rest of the bytes.
     ///
     /// # Errors
     ///
@@ -84,7 +83,8 @@ impl<S: Station + Drop> Server<S> {
         Ok(())
     }
 
-    /// Adds `more`, the next bytes of an input, to the kept part. Serves the lines that are whole now, and keeps the rest.
+    /// Adds `more`, the next bytes of an input, to the kept part. Lets the station answer the lines that are whole now. Keeps the rest of
+    /// the bytes, and the answers that are not yet written.
     ///
     /// # Errors
     ///
@@ -123,7 +123,7 @@ impl<S: Station + Drop> Server<S> {
         write_all(writer, self.kept.as_slice())
     }
 
-    /// Serves the line of the kept part, and then drops the part.
+    /// Lets the station answer the line of the kept part, keeps the answer, and drops the part.
     fn serve_part(&mut self)
         requires few { length self.old.part ≤ most_kept }
         requires room { HasRoomFor 866 self.old.kept }
@@ -136,7 +136,7 @@ impl<S: Station + Drop> Server<S> {
     }
 }
 
-/// Returns a station's answer to a line, which is passed with one space after it.
+/// Returns a station's answer to a line. `text` is the line and one more space.
 fn answer_line<S: Station>(station: &mut S, text: &[u8]) -> SaidLine
     ensures { (line : List ℕ) → text.now ≡ line ++ 32 ∷ [] → S.serves station.old (line_read line) station.new result }
 {
@@ -171,7 +171,7 @@ fn is_empty_line(part: &[u8]) -> bool
     matches!(part, [] | [b'\r'])
 }
 
-/// Keeps more bytes of a part, as far as there is room for them.
+/// Appends bytes to a part, as far as there is room for them.
 fn keep(part: &mut Filling<u8>, bytes: &[u8])
     requires few { length part.old.items ≤ most_kept }
     requires room { part.old.room ≡ line_room }

@@ -12,7 +12,7 @@ use std::io::{Read, Write};
 /// No read and no write is tried again.
 ///
 /// No contract can say that a reader or writer of the standard library succeeds. So a `Plain` that always fails would meet its clauses, and
-/// only a test finds it.
+/// only a test would find this.
 #[derive(Drop)]
 pub struct Plain<T> {
     inner: T,
@@ -30,7 +30,7 @@ impl<T> Plain<T> {
         Plain { inner, failures: 0 }
     }
 
-    /// Returns the reader or writer inside.
+    /// Returns the reader or writer that the `Plain` holds.
     pub fn into_inner(self) -> T
         ensures { result ≡ plain_inner self }
     {

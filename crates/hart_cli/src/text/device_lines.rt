@@ -1,4 +1,4 @@
-//! The lines that say what a device holds.
+//! The lines for the counter and the image of a device.
 ghost use Rattle.std.specs.Prelude.{◌≡◌, ◌++◌, ◌+◌, ◌≤◌, length};
 ghost use Rattle.hart_cli.specs.sim.Text.{counter_line, image_line};
 

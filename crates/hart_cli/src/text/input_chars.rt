@@ -2,23 +2,22 @@
 ghost use Rattle.std.specs.Prelude.{◌≡◌, ◌<◌, ◌≤◌, ◌+◌, ◌*◌, ◌/◌, [], ◌++◌, ℕ, List, drop, length, Option};
 ghost use Rattle.std.specs.Prelude.{IfErr, IfOk};
 ghost use Rattle.hart_frame.specs.heard.Character.{Character, faultless};
+ghost use Rattle.hart_text.specs.Items.{NoPieceBegins, ReadsAs, ReadsUpTo};
 ghost use Rattle.hart_cli.specs.input.Input.{Ending};
 ghost use Rattle.hart_cli.specs.text.InputChars.{HasChars, IsWholeTextFault};
-ghost use Rattle.hart_cli.specs.text.Items.{NoPieceBegins, ReadsAs, ReadsUpTo};
 ghost use Rattle.hart_cli.specs.declared.fault.CliFault.{CliFault};
 
 use crate::fault::CliFault;
-use crate::text::chunk::read_chunk;
-use crate::text::items::next_piece;
 use hart_frame::Char;
-use hart_line::{Digits, Filling};
+use hart_line::Filling;
+use hart_text::{Digits, next_piece, read_chunk};
 use hart_values::ByteList;
 use std::alloc::Global;
 
-/// The greatest number of bytes that are read before their characters are made.
+/// The greatest number of faultless bytes that are decoded at once.
 const RUN_LEN: usize = 256;
 
-/// The bytes read of an input, and how the input ended, determine the characters before its fault, and the fault itself.
+/// The bytes read from an input, and how the input ended, determine its first fault and the characters before that fault.
 pub fn inputs_are_unambiguous()
     ensures { (text : List ℕ) (ending : Ending) (xs ys : List Character) (f g : Option CliFault)
         → HasChars text ending xs f → HasChars text ending ys g → (xs ≡ ys) × (f ≡ g) }
@@ -28,8 +27,8 @@ pub fn inputs_are_unambiguous()
 ///
 /// # Errors
 ///
-/// [`CliFault::BadHex`] at the place of the first thing that is neither a separator nor an item; fault bits of a character are no
-/// fault of the input. [`CliFault::Memory`] if memory was refused: room is asked for one character per two bytes of the input.
+/// [`CliFault::BadHex`] with the first place where neither a separator nor an item begins; fault bits of a character are no fault of the
+/// input. [`CliFault::Memory`] if memory was refused. The call asks for room for one character per two bytes of the input.
 pub fn read_chars(alloc: Global, mut text: Filling<u8>) -> Result<Vec<Char>, CliFault>
     requires spare { length text.items < text.room }
     ensures chars { IfOk result (λ chars. ReadsAs text.items chars.items) }
@@ -37,7 +36,7 @@ pub fn read_chars(alloc: Global, mut text: Filling<u8>) -> Result<Vec<Char>, Cli
 {
     // An item has two bytes at least.
     let mut chars = Filling::with_room(alloc, text.len() / 2)?;
-    // The end of an input makes its last item whole, as a space does.
+    // The end of an input completes its last item, as a space does.
     text.push(b' ');
     let place = read_pieces(&Digits::new(), text.as_slice(), &mut chars);
     if place < text.len() {
@@ -46,8 +45,8 @@ pub fn read_chars(alloc: Global, mut text: Filling<u8>) -> Result<Vec<Char>, Cli
     Ok(chars.finish())
 }
 
-/// Reads a text up to the place where no piece begins, and returns that place. The last byte belongs to no item, so room for one
-/// character per two bytes before it is enough.
+/// Reads a text up to the first place where neither an item nor a separator begins, and returns that place. The last byte belongs to no
+/// item. So `chars` needs room for only one character per two bytes before the last byte.
 pub fn read_pieces(digits: &Digits, text: &[u8], chars: &mut Filling<Char>) -> usize
     requires empty { chars.old.items ≡ [] }
     requires room { length text.now ≤ 2 * chars.old.room + 2 }
@@ -72,7 +71,7 @@ pub fn read_pieces(digits: &Digits, text: &[u8], chars: &mut Filling<Char>) -> u
     }
 }
 
-/// Adds the characters of bytes that came without faults.
+/// Appends the characters of bytes that came without faults.
 fn push_faultless(chars: &mut Filling<Char>, bytes: &[u8])
     requires few { length bytes.now ≤ 256 }
     requires room { length chars.old.items + length bytes.now ≤ chars.old.room }
@@ -84,7 +83,7 @@ fn push_faultless(chars: &mut Filling<Char>, bytes: &[u8])
     chars.extend(heard);
 }
 
-/// Writes the characters of bytes that came without faults. The compiler writes several at once only in a function of its own.
+/// Writes the characters of bytes that came without faults. The compiler writes several characters at once only in a separate function.
 #[inline(never)]
 fn write_faultless(chars: &mut [Char], bytes: &[u8])
     requires { length chars.old ≡ length bytes.now }

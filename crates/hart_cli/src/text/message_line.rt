@@ -6,7 +6,7 @@ ghost use Rattle.hart_cli.specs.text.MessageLine.{IsMessageLine};
 use crate::text::hex_text::{HexLine, hex_line};
 use hart_frame::{Frame, Message, encode};
 
-/// Returns the line of the frame's message with this number of preamble bytes.
+/// Returns the frame's message, with this number of preamble bytes, as a line of hex.
 pub fn message_line(frame: &Frame, preambles: u8) -> HexLine
     requires { IsPreambleCount preambles }
     ensures { IsMessageLine frame.now preambles result }

@@ -1,5 +1,4 @@
-//! Lines of words, in buffers of a fixed size. So no line needs memory, and no contract has to allow that a line is left out because memory
-//! was refused.
+//! Lines of words, in buffers of a fixed size. So making a line allocates nothing, and no contract needs a case for refused memory.
 ghost use Rattle.std.specs.Prelude.{◌≡◌, ◌∷◌, [], ◌++◌, ◌+◌, ◌*◌, ◌<◌, ◌≤◌, length, max};
 ghost use Rattle.hart_cli.specs.text.Words.{bytes_word};
 
@@ -12,7 +11,7 @@ use hart_values::ByteList;
 /// spaces and a line feed.
 pub const TEXT_LINE_LEN: usize = 583;
 
-/// A line by itself.
+/// The buffer for one line.
 pub type TextLine = ByteList<TEXT_LINE_LEN>;
 
 /// Adds a text as it is.
@@ -34,7 +33,7 @@ pub fn push_word<const N: usize>(line: &mut ByteList<N>, word: &str)
     line.push(b' ');
 }
 
-/// Adds bytes as a word: in hex, or `-` if there are none.
+/// Adds bytes as a word: in hex, or `-` if there are no bytes.
 pub fn push_hex_word<const N: usize>(line: &mut ByteList<N>, pairs: &Pairs, bytes: &[u8])
     requires { length line.old + 2 * length bytes.now < N }
     ensures word { line.new ≡ line.old ++ bytes_word bytes.now }

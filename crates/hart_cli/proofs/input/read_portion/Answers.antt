@@ -4,7 +4,7 @@ use Rattle.hart_cli.specs.input.Input.{ReadsBeyond, ReadsWell}
 use Rattle.hart_cli.specs.stream.Stream.{Stream}
 use Rattle.hart_cli.proofs.input.read_portion.Goals as goal
 
--- a read that returned one byte more than there is room for went beyond the room
+-- a read that returned one byte more than the room went beyond the limit
 past_room : (old new : Stream) (bytes : List ℕ) (given room : ℕ) → ReadsWell old new (take given bytes) → given ≡ room + 1
     → given ≤ length bytes → ReadsBeyond old new (take room bytes) × (length (take room bytes) ≡ room)
 past_room old new bytes given room read one fits =

@@ -1,4 +1,4 @@
--- A character with faults: no frame reaches over it, so it decides all that stands before it.
+-- A character with faults: no frame contains it, so it decides all that stands before it.
 use Rattle.std.proofs.Common.{◌≡◌, ◌≢◌, ◌≤◌, ◌<◌, ◌+◌, ◌-◌, ◌⊎◌, inl, inr, ℕ, List, [], ◌∷◌, ◌++◌, length, take, drop, sym, ap, ◌∙◌}
 use Rattle.std.proofs.Common.{append_assoc, arith, length-append, length-drop, true, false}
 use Rattle.std.proofs.Math.Seq.{drop-append-add, drop-append_seam, take-append_seam}
@@ -69,7 +69,7 @@ before_or_after chars more c found from bad stands =
       ]
     ]
 
--- a frame lies within its list, and stands from each earlier place on, and in each longer list
+-- a frame lies within its list; it also stands from each earlier place on, and in each longer list
 lies_within : (chars : List Character) (found : Found) (from : ℕ) → StandsIn found chars from
     → (from + 2 ≤ found.start) × (found.start < found.stop) × (found.stop ≤ length chars)
 lies_within chars found from stands = grind (arith, length-append, length-map)
@@ -90,7 +90,7 @@ stands_longer chars more found from stands = record {
   stop = stands.stop;
 }
 
--- the frames after a character with faults are also those from any place on from which no frame stands before it
+-- the frames after a character with faults are also the frames from an earlier place on, if no frame stands between
 from_before : (chars more : List Character) (c : Character) (from : ℕ) (later : List Found) → c.faults ≢ 0 → from ≤ length chars
     → ((found : Found) → StandsIn found chars from → ⊥) → AreFrames (chars ++ c ∷ more) (length chars + 1) later
     → AreFrames (chars ++ c ∷ more) from later
@@ -110,7 +110,7 @@ from_before chars more c from later bad within empty (first place found others i
       ];
     }) rest
 
--- the frames before a character with faults, and then those after it, are the frames of all
+-- the frames before a character with faults, followed by those after it, are the frames of the whole list
 past_fault : (chars more : List Character) (c : Character) (from : ℕ) (frames later : List Found) → c.faults ≢ 0 → from ≤ length chars
     → AreFrames chars from frames → AreFrames (chars ++ c ∷ more) (length chars + 1) later
     → AreFrames (chars ++ c ∷ more) from (frames ++ later)

@@ -1,4 +1,4 @@
--- What is heard, and the lines that are kept of the frames in it.
+-- The characters that `hart dump` holds, and the lines that it keeps of their frames.
 use Rattle.std.proofs.Common.{◌≡◌, ◌≢◌, ◌≤◌, ◌+◌, ◌*◌, ℕ, Bool, false, true, IsTrue, List, [], ◌∷◌, ◌++◌, length, map, take, drop, ap, sym}
 use Rattle.std.proofs.Common.{◌∙◌, append_assoc, append-nil, arith, length-append, length-drop, refl}
 use Rattle.std.proofs.lemmas.Grind.{common_steps, flat_map-append}
@@ -10,15 +10,15 @@ use Rattle.hart_frame.specs.scan.Next.{AreNext}
 use Rattle.hart_frame.proofs.lemmas.Laws.{every_list_has_frames, next_frames_are_all-all, next_frames_are_all-grown}
 use Rattle.hart_frame.proofs.lemmas.Laws.{next_frames_are_all-moved, next_frames_are_all-nothing, next_frames_are_all-onward}
 use Rattle.hart_frame.proofs.lemmas.Laws.{next_frames_are_all-rest}
+use Rattle.hart_text.specs.Items.{ReadsUpTo}
+use Rattle.hart_text.proofs.lemmas.Items.{ReadsUpTo-on}
 use Rattle.hart_cli.specs.declared.calls.dump.frame_lines.FrameLines.{FrameLines}
 use Rattle.hart_cli.specs.dump.Dump.{AreDecided, AreFrameLines}
 use Rattle.hart_cli.specs.dump.FrameLines.{AddsDecided, AddsRest, HasLines, Hears, HearsText, IsWaiting, lines_from}
 use Rattle.hart_cli.specs.dump.Text.{dump_line, line_room}
-use Rattle.hart_cli.specs.text.Items.{ReadsUpTo}
 use Rattle.hart_cli.proofs.lemmas.dump.Faults.{next_at_fault}
-use Rattle.hart_cli.proofs.lemmas.text.Items.{ReadsUpTo-on}
 
--- there are as many characters as bytes
+-- a list of faultless characters is as long as the list of their bytes
 pub long_is : (bytes : List ℕ) → length (faultless bytes) ≡ length bytes
 long_is bytes = length-map bytes _
 
@@ -28,7 +28,7 @@ moved_twice : (a b : ℕ) (found : List Found) → map (moved a) (map (moved b) 
 moved_twice a b [] = refl
 moved_twice a b (f ∷ found) = grind (arith, common_steps, moved_twice a b found)
 
--- the lines of frames, and then of later ones, are the lines of all of them in one list
+-- the lines of some frames, followed by those of later frames, are the lines of all of them
 lines_on : (first used : ℕ) (given later : List Found)
     → lines_from first given ++ lines_from (first + used) later ≡ lines_from first (given ++ map (moved used) later)
 lines_on first used given later = rw (map-append, flat_map-append, moved_twice first used later) refl
@@ -81,7 +81,7 @@ added_next first held ended used to a b c found h next within added few = record
   within = within;
 }
 
--- no decided frame is left
+-- if no decided frame is left, the lines of all decided frames were added
 pub added_all : (first : ℕ) (held : List ℕ) (ended : Bool) (used to : ℕ) (a b : List ℕ) → AddedSoFar first held ended used a b
     → AreNext (faultless held) ended used [] to → to ≤ length held → length held ≤ to + 268 → (IsTrue ended → to ≡ length held)
     → (ended ≡ false → IsUndecided (faultless (drop to held))) → AddsDecided first held ended to a b
@@ -96,7 +96,7 @@ added_all first held ended used to a b h next within few all undecided = record 
   undecided = undecided;
 }
 
--- the lines of all frames are added once nothing more comes
+-- if nothing more comes, the lines of all frames were added
 pub adds_rest : (first : ℕ) (held : List ℕ) (used : ℕ) (before after : List ℕ) → AddsDecided first held true used before after
     → AddsRest first held before after
 adds_rest first held used before after adds =
@@ -108,13 +108,13 @@ adds_rest first held used before after adds =
     }
 
 -- WHAT IS HEARD
--- nothing is decided before anything is heard
+-- before anything is heard, nothing is decided
 pub waits_nothing : IsWaiting []
 waits_nothing =
     let empty : HasNoFrame [] 0 = λ found stands. grind (arith, ap (λ (cs : List Character). length cs) stands.split, length-append) in
     grind arith
 
--- nothing more was heard
+-- hearing no characters changes nothing
 pub hears_nothing : (f : FrameLines) → Hears f f []
 hears_nothing f = record {
   given = [];
@@ -126,7 +126,7 @@ hears_nothing f = record {
   room = omega arith;
 }
 
--- bytes were heard
+-- after bytes were searched and dropped as `used` says, they are heard
 pub heard_bytes : (old new : FrameLines) (bytes : List ℕ) (used : ℕ)
     → AddsDecided old.first (old.held ++ bytes) false used old.lines new.lines → new.first ≡ old.first + used
     → new.held ≡ drop used (old.held ++ bytes) → Hears old new (faultless bytes) × IsWaiting new.held
@@ -150,7 +150,7 @@ heard_bytes old new bytes used adds first held =
       },
     )
 
--- bytes were heard while none were held
+-- bytes that are searched in place, while none are held, are heard
 pub heard_in_place : (old new : FrameLines) (bytes : List ℕ) (used : ℕ) → old.held ≡ []
     → AddsDecided old.first bytes false used old.lines new.lines → new.first ≡ old.first + used
     → new.held ≡ old.held ++ drop used bytes → Hears old new (faultless bytes)
@@ -167,7 +167,7 @@ waits_in_place first before held bytes lines after used none adds is =
       few = rw rest (omega (arith, adds.few, adds.within, length-drop used bytes));
     }
 
--- a character with faults was heard
+-- a character with faults, after which nothing is held, is heard
 pub heard_fault : (old new : FrameLines) (c : Character) (used : ℕ) → c.faults ≢ 0
     → AddsDecided old.first old.held true used old.lines new.lines → new.first ≡ old.first + (used + 1) → new.held ≡ []
     → Hears old new (c ∷ [])
@@ -185,7 +185,7 @@ heard_fault old new c used bad adds first none =
       room = rw none (omega (arith, adds.room, adds.within));
     }
 
--- what was let go and what is held add up to all that was heard
+-- the characters that were dropped and those that are held add up to all that were heard
 pub hears_long : (a b : FrameLines) (xs : List Character) → Hears a b xs
     → b.first + length b.held ≡ a.first + length a.held + length xs
 hears_long a b xs h =
@@ -193,20 +193,20 @@ hears_long a b xs h =
     let all = length-append (faultless a.held) xs in
     omega (arith, h.next.within, h.first, held, long_is a.held, long_is b.held, length-drop h.used (faultless a.held ++ xs), all)
 
--- the next frames of a list, and then those of its rest, are the next frames of the list
+-- the next frames of a list, followed by the next frames of its rest, are the next frames of the list
 next_later : (chars : List Character) (first used : ℕ) (given later : List Found) → AreNext chars false 0 given first
     → AreNext (drop first chars) false 0 later used → AreNext chars false 0 (given ++ map (moved first) later) (first + used)
 next_later chars first used given later next on =
     next_frames_are_all-onward chars false 0 first (first + used) given (map (moved first) later) next
     (next_frames_are_all-moved first chars false later used next.within on)
 
--- it is the same to drop characters before or after more are heard
+-- dropping characters before more are heard gives the same as dropping them afterwards
 held_on : (chars more : List Character) (held : List ℕ) (place : ℕ) → faultless held ≡ drop place chars → place ≤ length chars
     → faultless held ++ more ≡ drop place (chars ++ more)
 held_on chars more held place is within =
     ap (λ (cs : List Character). cs ++ more) is ∙ sym (drop-append-le place chars more within)
 
--- characters were heard, and then more
+-- if some characters were heard and then others, all of them were heard
 pub hears_then : (a b c : FrameLines) (xs ys : List Character) → Hears a b xs → Hears b c ys → Hears a c (xs ++ ys)
 hears_then a b c xs ys h k =
     let chars = faultless a.held ++ xs in
@@ -225,7 +225,7 @@ hears_then a b c xs ys h k =
       room = omega (arith, h.room, k.room, length-append xs ys);
     }
 
--- more of a text was heard
+-- if a text was heard up to a rest, and then the rest, the whole text was heard
 pub text_on : {text rest last : List ℕ} (old now new : FrameLines) (more : List Character) → HearsText old now text rest
     → ReadsUpTo rest more last → Hears now new more → HearsText old new text last
 text_on old now new more heard reads hears = record {
@@ -238,14 +238,14 @@ text_on old now new more heard reads hears = record {
 pub has_nothing : HasLines [] 0 [] []
 has_nothing = record { given = []; next = next_frames_are_all-nothing [] false 0 (omega arith); left = refl; lines = refl }
 
--- what is heard is let go or held
+-- the characters that have lines and those that are held add up to all that were heard
 pub has_long : (chars : List Character) (first : ℕ) (held text : List ℕ) → HasLines chars first held text
     → first + length held ≡ length chars
 has_long chars first held text has =
     let same : length (faultless held) ≡ length (drop first chars) = ap (λ (cs : List Character). length cs) has.left in
     omega (arith, same, long_is held, length-drop first chars, has.next.within)
 
--- more characters were heard
+-- if more characters are heard, the lines are those of the longer list
 pub has_more : (chars more : List Character) (old new : FrameLines) (text : List ℕ) → HasLines chars old.first old.held text
     → old.lines ≡ [] → Hears old new more → HasLines (chars ++ more) new.first new.held (text ++ new.lines)
 has_more chars more old new text has quiet hears =
@@ -260,7 +260,7 @@ has_more chars more old new text has quiet hears =
       lines = rw (has.lines, added, flat_map-append) refl;
     }
 
--- once nothing is decided in what is held, the frames that have lines are the decided ones
+-- if nothing is decided in the held characters, exactly the decided frames have lines
 pub are_decided : (chars : List Character) (first : ℕ) (held text : List ℕ) → (has : HasLines chars first held text)
     → IsUndecided (faultless held) → AreDecided chars has.given
 are_decided chars first held text has undecided =
@@ -273,7 +273,7 @@ are_decided chars first held text has undecided =
       undecided = undecided;
     }
 
--- with the lines of the frames in what is held, all frames have their lines
+-- if the lines of the frames in the held characters are added, all frames have lines
 pub all_lines : (chars : List Character) (first : ℕ) (held text rest : List ℕ) → HasLines chars first held text
     → AddsRest first held [] rest → AreFrameLines chars (text ++ rest)
 all_lines chars first held text rest has adds = record {

@@ -3,6 +3,9 @@ use Rattle.std.proofs.Common.{◌≡◌, ◌≤◌, ◌<◌, ◌+◌, ◌-◌, �
 use Rattle.std.proofs.lemmas.Grind.{common_steps}
 use Rattle.hart_frame.specs.heard.Character.{Character}
 use Rattle.hart_frame.proofs.lemmas.Laws.{every_list_has_frames}
+use Rattle.hart_text.specs.Items.{MayBegin, NoPieceBegins, Opens, ReadsUpTo}
+use Rattle.hart_text.proofs.lemmas.Items.{item_laws, ReadsUpTo-few}
+use Rattle.hart_text.proofs.lemmas.Marks.{items_never_open, items_open}
 use Rattle.hart_cli.specs.declared.calls.dump.frame_lines.FrameLines.{FrameLines}
 use Rattle.hart_cli.specs.declared.fault.CliFault.{CliFault}
 use Rattle.hart_cli.specs.declared.input.InputEnd.{InputEnd}
@@ -16,16 +19,12 @@ use Rattle.hart_cli.specs.input.Decoding.{item_decoding, most_ahead}
 use Rattle.hart_cli.specs.input.Input.{ending_of, input_limit}
 use Rattle.hart_cli.specs.input.LiveInput.{IsDecidedText, StopsWriting, WroteInTime}
 use Rattle.hart_cli.specs.stream.Stream.{FailsToWrite, Stream, WritesAll}
-use Rattle.hart_cli.specs.text.Items.{MayBegin, NoPieceBegins, Opens, ReadsUpTo}
 use Rattle.hart_cli.proofs.lemmas.Writes.{FailsToWrite-longer, FailsToWrite-on}
 use Rattle.hart_cli.proofs.lemmas.dump.FrameLines.{are_decided, has_long, has_more, hears_long}
-use Rattle.hart_cli.proofs.lemmas.text.InputChars.{item_laws}
-use Rattle.hart_cli.proofs.lemmas.text.Items.{ReadsUpTo-few}
-use Rattle.hart_cli.proofs.lemmas.text.Marks.{items_never_open, items_open}
 use Rattle.hart_cli.proofs.lemmas.input.Decoded.{DecodedUpTo, are_decoded, decoded_step, decodes_all, in_time_before, read_to, step_by}
 use Rattle.hart_cli.proofs.lemmas.input.Decoded.{stops_in}
 
--- an input was read and heard up to a rest where no piece begins yet, with these lines so far
+-- an input was read and heard up to a rest where no piece begins yet; these are its lines so far
 pub record HeardUpTo (old new : Stream) (first : ℕ) (held : List ℕ) (end : Option InputEnd) (rest : List ℕ) (read : ℕ)
     (lines : List ℕ) : Type 0 where
   pub input : List ℕ
@@ -34,7 +33,7 @@ pub record HeardUpTo (old new : Stream) (first : ℕ) (held : List ℕ) (end : O
   pub has : HasLines chars first held lines
   pub waiting : IsWaiting held
 
--- what one read gave is heard, and the lines of what was decided before that read were written in time
+-- after one more read, its characters are heard, and the lines that were decided before it were written in time
 pub heard_step : (r r1 r2 w w1 : Stream) (old new : FrameLines) (read : ℕ) (ahead after rest text : List ℕ) (portion : Portion)
     → HeardUpTo r r1 old.first old.held None ahead read text → old.lines ≡ [] → WritesAll w w1 text
     → MayBegin ahead → ReadsAhead r1 r2 ahead after (input_limit - read) portion → length after ≤ most_ahead
@@ -60,7 +59,7 @@ heard_step r r1 r2 w w1 old new read ahead after rest text portion due none wrot
       }) wrote.0,
 )
 
--- the places of what is held are numbers of 64 bits
+-- the places of the held characters fit in 64 bits
 pub heard_places : (r r1 : Stream) (old new : FrameLines) (read : ℕ) (ahead after rest text : List ℕ)
     → HeardUpTo r r1 old.first old.held None ahead read text → length after ≤ most_ahead → HearsText old new after rest
     → new.first + length new.held < 2 ^ 64
@@ -72,7 +71,7 @@ heard_places r r1 old new read ahead after rest text due few heard =
     let within = due.decoded.came.1 in
     grind (arith, common_steps)
 
--- a write failed in the lines that were kept
+-- if a write of the kept lines fails, the call has stopped as `StopsWriting` says
 pub stopped_writing : (r r2 w w1 w2 : Stream) (first : ℕ) (held : List ℕ) (end : Option InputEnd) (rest : List ℕ) (read : ℕ)
     (text lines : List ℕ) (heard : HeardUpTo r r2 first held end rest read (text ++ lines)) → WritesAll w w1 text
     → WroteInTime (IsDecidedText item_decoding AreDecidedLines) heard.input w w1 → FailsToWrite w1 w2 lines
@@ -86,7 +85,7 @@ stopped_writing r r2 w w1 w2 first held end rest read text lines heard wrote in_
     (are_decoded ReadsUpTo NoPieceBegins most_ahead item_laws input_limit r r2 end rest read heard.input heard.chars heard.decoded)
     (grind (arith, common_steps)) in_time all fails
 
--- once no more of an input is read, the last step says the fault of the input
+-- if no more of an input is read, the last step has the fault of the input
 pub hears_all : (r r2 w w1 : Stream) (frames : FrameLines) (end : Option InputEnd) (rest : List ℕ) (read : ℕ) (text : List ℕ)
     (fault : Option CliFault) (heard : HeardUpTo r r2 frames.first frames.held end rest read text)
     → frames.first + length frames.held < 2 ^ 64 → frames.lines ≡ []

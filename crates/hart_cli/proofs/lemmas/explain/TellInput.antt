@@ -1,79 +1,54 @@
 -- An input that is read and told, step by step.
-use Rattle.std.proofs.Common.{◌≡◌, ◌≤◌, ◌+◌, ◌-◌, ◌*◌, ◌^◌, ℕ, Bool, false, true, List, [], ◌++◌, length, drop, Option, None}
+use Rattle.std.proofs.Common.{◌≡◌, ◌≤◌, ◌<◌, ◌+◌, ◌-◌, ◌*◌, ◌^◌, ℕ, false, true, List, [], ◌++◌, length, Option, None, Some, Ok, Err}
+use Rattle.std.proofs.Common.{MatchResult, Result}
 use Rattle.std.proofs.Common.{refl, arith}
-use Rattle.std.proofs.Common.{◌∷◌, append-nil, inl, inr, length-append, length-drop}
+use Rattle.std.proofs.Common.{◌∷◌, inl, inr, length-append}
 use Rattle.std.proofs.KnownBytes.{Consumes-nil}
 use Rattle.std.proofs.lemmas.Grind.{common_steps}
-use Rattle.std.proofs.lemmas.List.{drop-drop}
-use Rattle.hart_frame.specs.heard.Character.{Character}
-use Rattle.hart_cli.specs.declared.calls.explain.telling.Telling.{Telling}
+use Rattle.hart_text.specs.Heard as reading
+use Rattle.hart_text.specs.Heard.{Heard, NothingBegins, ReadsHeard}
+use Rattle.hart_text.specs.Items.{Opens, nothing}
+use Rattle.hart_text.proofs.lemmas.Heard.{count, heard_few, heard_laws}
+use Rattle.hart_listen.specs.Dates.{date_from}
+use Rattle.hart_listen.specs.Listener.{IsNew, IsWaiting}
+use Rattle.hart_listen.specs.declared.listener.Listener.{Listener}
+use Rattle.hart_listen.proofs.lemmas.Listener.{long_is, new_waits}
+use Rattle.hart_listen.proofs.lemmas.Stands.{stands_count}
+use Rattle.hart_cli.specs.declared.calls.explain.printer.Printer.{Printer}
+use Rattle.hart_cli.specs.declared.calls.explain.printer.Style.{Style}
 use Rattle.hart_cli.specs.declared.fault.CliFault.{CliFault}
+use Rattle.hart_cli.specs.declared.fault.CliFault.TheVariants.{Write}
 use Rattle.hart_cli.specs.declared.input.InputEnd.{InputEnd}
 use Rattle.hart_cli.specs.declared.input.Portion.{Portion}
 use Rattle.hart_cli.specs.declared.input.ahead.NextStep.TheVariants.{Stop}
+use Rattle.hart_cli.specs.explain.Explain.{ExplainOutcome}
 use Rattle.hart_cli.specs.explain.Explanation.{IsDecidedIn, IsTextIn}
-use Rattle.hart_cli.specs.explain.Telling.{FailsInStretches, FailsInText, FailsToHear, Hears, HearsAll, HearsStretches, HearsText}
-use Rattle.hart_cli.specs.explain.Telling.{IsNew, IsWaiting, TellsAll, TellsRest, nothing as nothing_heard}
-use Rattle.hart_cli.specs.input.Ahead.{IsNextStep, ReadsAhead, ended_length}
+use Rattle.hart_cli.specs.explain.Page.{IsBlank}
+use Rattle.hart_cli.specs.explain.Printer.{EndsText, Prints}
+use Rattle.hart_cli.specs.input.Ahead.{DecodesAll, IsNextStep, ReadsAhead, ended_length}
 use Rattle.hart_cli.specs.declared.input.InputEnd.TheVariants.{Ended, ReadFailed, TooLong}
 use Rattle.hart_cli.specs.input.Decoding.{Decoding, ended_text, heard_decoding, most_heard_ahead}
-use Rattle.hart_cli.specs.input.Input.{CameTo, Ending, Left, ReadsToWithin, most_at_once, stream_limit}
-use Rattle.hart_cli.specs.input.LiveInput.{IsDecidedText, ReadsText, StopsWriting, WroteInTime}
-use Rattle.hart_cli.specs.stream.Stream.{FailsToWrite, Stream, WritesAll}
-use Rattle.hart_cli.specs.text.Heard as reading
-use Rattle.hart_cli.specs.text.Heard.{Heard, NothingBegins, ReadsHeard, heard_chars}
-use Rattle.hart_cli.specs.text.Items.{Opens, ReadsUpTo, nothing}
-use Rattle.hart_cli.proofs.lemmas.Writes.{in_time_on}
-use Rattle.hart_cli.proofs.lemmas.explain.Sightings.{undecided_nothing}
-use Rattle.hart_cli.proofs.lemmas.explain.Stretches.{all_failed, all_on, fails_after}
-use Rattle.hart_cli.proofs.lemmas.explain.Telling.{fails_later, hears_long, hears_then}
-use Rattle.hart_cli.proofs.lemmas.explain.Told.{held_within, tell_all}
-use Rattle.hart_cli.proofs.lemmas.explain.ToldText.{fails_in_text, rest_text, told_is_decided}
-use Rattle.hart_cli.proofs.lemmas.input.Decoded.{DecodedUpTo, decoded_part, decoded_step, decodes_all, in_time_before, stops_in}
-use Rattle.hart_cli.proofs.lemmas.text.Heard.{heard_few, heard_laws}
-use Rattle.hart_cli.proofs.lemmas.text.Items.{ReadsUpTo-few, ReadsUpTo-on}
-
--- more of a text was heard
-pub hears_part : (start a b : Telling) (text : List ℕ) (place len : ℕ) (chars : List Character) (w w1 w2 : Stream)
-    → HearsText start a text place w w1 → len ≤ length (drop place text) → ReadsUpTo (drop place text) chars (drop len (drop place text))
-    → Hears a b chars false w1 w2 → HearsText start b text (place + len) w w2
-hears_part start a b text place len chars w w1 w2 h within reads hears = record {
-  within = omega (arith, h.within, within, length-drop place text);
-  chars = h.chars ++ chars;
-  reads = rw (drop-drop len place text) at (ReadsUpTo-on text h.chars (drop place text) chars _ h.reads reads);
-  hears = hears_then start a b h.chars chars false w w1 w2 h.hears hears;
-}
-
--- a write failed in what is said of more of a text
-pub fails_part : (start a : Telling) (text : List ℕ) (place : ℕ) (chars : List Character) (rest : List ℕ) (w w1 w2 : Stream)
-    → HearsText start a text place w w1 → ReadsUpTo (drop place text) chars rest → FailsToHear a chars false w1 w2
-    → FailsInText start text w w2
-fails_part start a text place chars rest w w1 w2 h reads k = record {
-  chars = h.chars ++ chars;
-  rest = rest;
-  reads = ReadsUpTo-on text h.chars (drop place text) chars rest h.reads reads;
-  fails = fails_later start a h.chars chars false w w1 w2 h.hears k;
-}
-
--- the characters let go, the held ones and the rest of a text are together no more than they were at the start of the text
-pub part_fits : (start a : Telling) (text : List ℕ) (place : ℕ) (w w1 : Stream) → HearsText start a text place w w1
-    → a.first + length a.held + length (drop place text) ≤ start.first + length start.held + length text
-part_fits start a text place w w1 h =
-    omega (arith, hears_long start a h.chars false w w1 h.hears, ReadsUpTo-few text h.chars (drop place text) h.reads)
+use Rattle.hart_cli.specs.input.Input.{CameTo, Ending, Left, ReadsToWithin, ending_of, stream_limit}
+use Rattle.hart_cli.specs.input.LiveInput.{IsDecidedText, LiveOutcome, ReadsText, StopsWriting, WroteInTime}
+use Rattle.hart_cli.specs.stream.Stream.{Stream, WritesAll}
+use Rattle.hart_cli.proofs.lemmas.Writes.{FailsToWrite-longer, in_time_on}
+use Rattle.hart_cli.proofs.lemmas.explain.Printer.{prints_decided, prints_none, prints_since, prints_whole}
+use Rattle.hart_cli.proofs.lemmas.input.Decoded.{DecodedUpTo, are_decoded, decoded_step, decodes_all, ends_with, in_time_before}
+use Rattle.hart_cli.proofs.lemmas.input.Decoded.{read_to}
 
 -- an input was read and told up to a rest where nothing begins yet
-pub record ToldUpTo (old new : Stream) (start telling : Telling) (end : Option InputEnd) (rest : List ℕ) (read : ℕ)
-    (writer writer_after : Stream) : Type 0 where
+pub record HeardUpTo (old new : Stream) (style : Style) (listener : Listener) (printer : Printer) (end : Option InputEnd) (rest : List ℕ)
+    (read : ℕ) (writer writer_after : Stream) : Type 0 where
   pub input : List ℕ
   pub heard : List Heard
   pub decoded : DecodedUpTo ReadsHeard NothingBegins most_heard_ahead stream_limit old new end rest read input heard
-  pub hears : HearsAll start telling heard writer writer_after
-  pub waiting : IsWaiting telling
-  pub quiet : telling.kept ≡ []
+  pub stands : Prints style writer writer_after listener printer heard writer_after
+  pub waiting : IsWaiting listener
 
 -- nothing was read yet
-pub told_nothing : (r w : Stream) (start : Telling) → IsNew start → IsWaiting start → ToldUpTo r r start start None [] 0 w w
-told_nothing r w start new waiting = record {
+pub heard_nothing : (r w : Stream) (style : Style) (l : Listener) (p : Printer) → IsNew l → IsBlank p.page → p.style ≡ style
+    → HeardUpTo r r style l p None [] 0 w w
+heard_nothing r w style l p new blank is = record {
   input = [];
   heard = [];
   decoded = record {
@@ -84,9 +59,8 @@ told_nothing r w start new waiting = record {
     few = omega arith;
     still_open = λ is. cc is;
   };
-  hears = nothing_heard w;
-  waiting = waiting;
-  quiet = new.quiet;
+  stands = prints_none style l p w new blank is;
+  waiting = new_waits l new;
 }
 
 -- an input, with a space added for its end, has at most one byte more than the limit
@@ -98,127 +72,147 @@ input_within input (CameTo Ended) r r2 reads = omega (arith, reads.2, length-app
 input_within input (CameTo ReadFailed) r r2 reads = omega (arith, reads.1)
 input_within input (CameTo TooLong) r r2 reads = omega (arith, reads.1)
 
--- a new telling waits for more
-pub new_waits : (start : Telling) → IsNew start → IsWaiting start
-new_waits start new = record {
-  undecided = rw new.held undecided_nothing;
-  few = rw new.held (omega arith);
-  dated = rw (new.held, new.dated) refl;
-  own = rw new.no_last (tt, tt);
-}
+-- the characters that were let go and the held ones are all that were heard
+pub heard_count : (style : Style) (start since : Stream) (l : Listener) (p : Printer) (heard : List Heard) (w : Stream)
+    → Prints style start since l p heard w → l.first + length l.held ≡ count heard
+heard_count style start since l p heard w s =
+    omega (arith, stands_count _ l.last (date_from l) l.first _ 0 heard s, long_is l.held)
 
 -- twice the number of characters heard, and the length of the rest, add up to at most 2^64
-pub places_fit : (r r1 : Stream) (start telling : Telling) (end : Option InputEnd) (rest : List ℕ) (read : ℕ) (w w1 : Stream)
-    → IsNew start → (due : ToldUpTo r r1 start telling end rest read w w1) → read ≤ stream_limit
-    → 2 * (telling.first + length telling.held) + length rest ≤ 2 ^ 64
-places_fit r r1 start telling end rest read w w1 new due within =
-    let long = held_within start telling due.heard w w1 new due.hears in
+pub places_fit : (r r1 : Stream) (style : Style) (l : Listener) (p : Printer) (end : Option InputEnd) (rest : List ℕ) (read : ℕ)
+    (w w1 : Stream) → (due : HeardUpTo r r1 style l p end rest read w w1) → read ≤ stream_limit
+    → 2 * (l.first + length l.held) + length rest ≤ 2 ^ 64
+places_fit r r1 style l p end rest read w w1 due within =
+    let long = heard_count style w w1 l p due.heard w1 due.stands in
     let few = heard_few _ due.heard rest due.decoded.reads in
     grind (arith, common_steps)
 
--- what was told before a read is decided, and was written in time
-told_in_time : (r r1 w w1 : Stream) (start old : Telling) (ahead : List ℕ) (read : ℕ) (bytes : List ℕ) → IsNew start
-    → (due : ToldUpTo r r1 start old None ahead read w w1) → Opens NothingBegins ahead → length bytes ≤ most_at_once
-    → WroteInTime (IsDecidedText heard_decoding (IsDecidedIn start.teller.style)) (due.input ++ bytes) w w1
-told_in_time r r1 w w1 start old ahead read bytes new due may few =
-    let decided = told_is_decided start old due.heard w w1 new (tell_all start old due.heard w w1 new due.hears) due.waiting due.quiet in
-    in_time_before ReadsHeard NothingBegins most_heard_ahead heard_laws (IsDecidedIn start.teller.style) stream_limit r r1 w w1
-    ahead read due.input due.heard _ bytes due.decoded may few decided.0 decided.1.0
-
 -- what one read gave is told, and what was decided before that read was written in time
-pub told_step : (r r1 r2 w w1 w2 : Stream) (start old new : Telling) (ahead after : List ℕ) (read place : ℕ) (portion : Portion)
-    → IsNew start → ToldUpTo r r1 start old None ahead read w w1 → Opens NothingBegins ahead
-    → ReadsAhead r1 r2 ahead after (stream_limit - read) portion
-    → length after ≤ most_heard_ahead → NothingBegins (drop place after) → HearsStretches old new after place w1 w2 → IsWaiting new
-    → new.kept ≡ []
-    → (now : ToldUpTo r r2 start new portion.end (drop place after) (read + portion.len) w w2)
-    × WroteInTime (IsDecidedText heard_decoding (IsDecidedIn start.teller.style)) now.input w w1
-told_step r r1 r2 w w1 w2 start old new ahead after read place portion begun due may one few stops text waiting quiet = (
-  record {
-    input = due.input ++ one.bytes;
-    heard = due.heard ++ text.heard;
-    decoded = decoded_step ReadsHeard NothingBegins most_heard_ahead heard_laws stream_limit r r1 r2 ahead after (drop place after) read
-        portion due.input due.heard text.heard due.decoded may one few stops text.reads;
-    hears = all_on start old new due.heard text.heard w w1 w2 due.hears text.hears;
-    waiting = waiting;
-    quiet = quiet;
-  },
-  told_in_time r r1 w w1 start old ahead read one.bytes begun due may one.few,
-)
-
--- a write failed in the explanation of what was heard
-pub stops_explaining : (decoding : Decoding (List Heard)) (limit : ℕ) (r r2 w w1 w2 : Stream) (start now : Telling) (input : List ℕ)
-    (ending : Ending) (passed : List Heard) (chars : List Character) (ended : Bool) (between : Stream) (last : List ℕ) → IsNew start
-    → ReadsToWithin limit r r2 input ending → decoding.Decoded input ending (passed ++ heard_chars chars)
-    → WroteInTime (IsDecidedText decoding (IsDecidedIn start.teller.style)) input w w1
-    → HearsAll start now passed w between → FailsToHear now chars ended between w2 → FailsToWrite w1 w2 last
-    → StopsWriting decoding limit (IsTextIn start.teller.style) (IsDecidedIn start.teller.style) r r2 w w2
-stops_explaining decoding limit r r2 w w1 w2 start now input ending passed chars ended between last new reads decoded in_time hears k
-    last_fails =
-    let told = tell_all start now passed w between new hears in
-    let (text, is, fails) = fails_in_text start now passed w between w2 new told chars ended k in
-    stops_in decoding limit (IsTextIn start.teller.style) (IsDecidedIn start.teller.style) r r2 w w1 w2 input ending
-    (passed ++ heard_chars chars) text last reads decoded is in_time fails last_fails
-
--- a write failed in the explanation of a part of what one read gave
-pub stopped_telling : (r r1 r2 w w1 w2 : Stream) (start old : Telling) (ahead after : List ℕ) (read : ℕ) (portion : Portion) → IsNew start
-    → ToldUpTo r r1 start old None ahead read w w1 → Opens NothingBegins ahead → ReadsAhead r1 r2 ahead after (stream_limit - read) portion
-    → length after ≤ most_heard_ahead → FailsInStretches old after w1 w2
-    → StopsWriting heard_decoding stream_limit (IsTextIn start.teller.style) (IsDecidedIn start.teller.style) r r2 w w2
-stopped_telling r r1 r2 w w1 w2 start old ahead after read portion new due may one few k =
-    let in_time = told_in_time r r1 w w1 start old ahead read one.bytes new due may one.few in
-    let part = decoded_part ReadsHeard NothingBegins most_heard_ahead heard_laws stream_limit r r1 r2 ahead after k.rest read portion
-    due.input due.heard k.heard due.decoded one few k.reads in
-    let (last, last_fails) = all_failed old k.heard w1 w2 k.fails in
-    let all = fails_after start old due.heard k.heard w w1 w2 due.hears k.fails in
-    stops_explaining heard_decoding stream_limit r r2 w w1 w2 start all.now (due.input ++ one.bytes) _ all.passed all.chars all.ended
-    all.between last new part.0 (rw all.heard_is at part.1) in_time all.hears all.fails last_fails
-
--- once no more of an input is read, the last step says the fault of the input
-pub tells_all : (r r2 w w1 w2 : Stream) (start telling : Telling) (end : Option InputEnd) (rest : List ℕ) (read : ℕ)
-    (fault : Option CliFault) → IsNew start → (told : ToldUpTo r r2 start telling end rest read w w2)
-    → WroteInTime (IsDecidedText heard_decoding (IsDecidedIn start.teller.style)) told.input w w1 → (text : List ℕ) → WritesAll w1 w2 text
-    → IsNextStep (Opens NothingBegins) end rest (ended_length end read - length rest) (Stop fault)
-    → TellsAll heard_decoding stream_limit r r2 w w2 start telling fault
-tells_all r r2 w w1 w2 start telling end rest read fault new told in_time text wrote step =
-    let all = decodes_all ReadsHeard NothingBegins most_heard_ahead heard_laws stream_limit r r2 end rest read told.input told.heard fault
-    told.decoded step in
-    let few = heard_few _ told.heard all.decoded.rest all.decoded.reads in
-    let within = input_within told.input all.ending r r2 all.reads in
-    record {
-      input = told.input;
-      heard = told.heard;
-      decodes = all;
-      places = omega (arith, held_within start telling told.heard w w2 new told.hears, few, within);
-      hears = told.hears;
-      waiting = told.waiting;
-      quiet = told.quiet;
-      in_time = in_time_on (IsDecidedText heard_decoding (IsDecidedIn start.teller.style)) told.input w w1 w2 text in_time wrote.0;
-    }
-
--- after the last sightings are told, all of the text has been written
-pub explains_all : (decoding : Decoding (List Heard)) (limit : ℕ) (r r2 w w1 w2 : Stream) (start telling : Telling)
-    (fault : Option CliFault) → IsNew start → TellsAll decoding limit r r2 w w1 start telling fault → TellsRest telling w1 w2
-    → (text : List ℕ) × ReadsText decoding limit (IsTextIn start.teller.style) r r2 fault text × WritesAll w w2 text
-explains_all decoding limit r r2 w w1 w2 start telling fault new all k =
-    let told = tell_all start telling all.heard w w1 new all.hears in
-    let (text, is, wrote) = rest_text start telling all.heard w w1 w2 new told all.waiting all.quiet k in (
-      text,
+pub heard_step : (r r1 r2 w w1 w2 : Stream) (style : Style) (old new : Listener) (p q : Printer) (ahead after rest : List ℕ) (read : ℕ)
+    (portion : Portion) (more : List Heard) → HeardUpTo r r1 style old p None ahead read w w1 → p.page.kept ≡ []
+    → p.page.failed ≡ false → Opens NothingBegins ahead → ReadsAhead r1 r2 ahead after (stream_limit - read) portion
+    → length after ≤ most_heard_ahead → NothingBegins rest → ReadsHeard after more rest
+    → ((heard : List Heard) → Prints style w w1 old p heard w1 → Prints style w w1 new q (heard ++ more) w2) → IsWaiting new
+    → (now : HeardUpTo r r2 style new q portion.end rest (read + portion.len) w w2)
+    × WroteInTime (IsDecidedText heard_decoding (IsDecidedIn style)) now.input w w2
+heard_step r r1 r2 w w1 w2 style old new p q ahead after rest read portion more due quiet unfailed may one few stops reads hears waiting =
+    let (text, decided, wrote) = prints_decided style w w1 old p due.heard w1 due.stands due.waiting quiet unfailed in
+    let on = hears due.heard due.stands in
+    let before = in_time_before ReadsHeard NothingBegins most_heard_ahead heard_laws (IsDecidedIn style) stream_limit r r1 w w1 ahead read
+    due.input due.heard text one.bytes due.decoded may one.few decided wrote.0 in (
       record {
-        input = all.input;
-        ending = all.decodes.ending;
-        reads = all.decodes.reads;
-        has_text = record { heard = all.heard; has = all.decodes.has; is_text = is };
-        soon = all.decodes.soon;
+        input = due.input ++ one.bytes;
+        heard = due.heard ++ more;
+        decoded = decoded_step ReadsHeard NothingBegins most_heard_ahead heard_laws stream_limit r r1 r2 ahead after rest read
+            portion due.input due.heard more due.decoded may one few stops reads;
+        stands = prints_since style w w1 new q (due.heard ++ more) w2 on;
+        waiting = waiting;
       },
-      wrote,
+      in_time_on (IsDecidedText heard_decoding (IsDecidedIn style)) (due.input ++ one.bytes) w w1 w2 on.told.taken.more before
+          on.told.taken.added,
     )
 
--- a write failed in the explanation of the rest
-pub stops_at_rest : (decoding : Decoding (List Heard)) (limit : ℕ) (r r2 w w1 w2 : Stream) (start telling : Telling)
-    (fault : Option CliFault) → IsNew start → TellsAll decoding limit r r2 w w1 start telling fault
-    → FailsToHear telling [] true w1 w2
-    → StopsWriting decoding limit (IsTextIn start.teller.style) (IsDecidedIn start.teller.style) r r2 w w2
-stops_at_rest decoding limit r r2 w w1 w2 start telling fault new all k =
-    stops_explaining decoding limit r r2 w w1 w2 start telling all.input all.decodes.ending all.heard [] true w1 _ new all.decodes.reads
-    (rw (append-nil all.heard) all.decodes.decoded) all.in_time all.hears k k.fails
+-- a write failed in the text of what was heard
+pub stops_hearing : (decoding : Decoding (List Heard)) (limit : ℕ) (r r2 w w2 : Stream) (style : Style) (l : Listener) (p : Printer)
+    (input : List ℕ) (ending : Ending) (heard : List Heard) → ReadsToWithin limit r r2 input ending → decoding.Decoded input ending heard
+    → WroteInTime (IsDecidedText decoding (IsDecidedIn style)) input w w2 → Prints style w w2 l p heard w2 → p.page.failed ≡ true
+    → StopsWriting decoding limit (IsTextIn style) (IsDecidedIn style) r r2 w w2
+stops_hearing decoding limit r r2 w w2 style l p input ending heard reads decoded in_time s failed =
+    let (more, is) = prints_whole style w w2 l p heard w2 s in
+    record {
+      input = input;
+      ending = ending;
+      reads = reads;
+      heard = heard;
+      decoded = decoded;
+      text = _;
+      is_text = is;
+      fails = FailsToWrite-longer w w2 _ more (rw failed at s.told.taken.kept);
+      in_time = in_time;
+    }
+
+pub stops_up_to : (r r2 w w2 : Stream) (style : Style) (l : Listener) (p : Printer) (end : Option InputEnd) (rest : List ℕ) (read : ℕ)
+    → (now : HeardUpTo r r2 style l p end rest read w w2)
+    → WroteInTime (IsDecidedText heard_decoding (IsDecidedIn style)) now.input w w2 → p.page.failed ≡ true
+    → StopsWriting heard_decoding stream_limit (IsTextIn style) (IsDecidedIn style) r r2 w w2
+stops_up_to r r2 w w2 style l p end rest read now in_time failed =
+    stops_hearing heard_decoding stream_limit r r2 w w2 style l p now.input (ending_of end) now.heard
+    (read_to r r2 now.input stream_limit end now.decoded.came)
+    (are_decoded ReadsHeard NothingBegins most_heard_ahead heard_laws stream_limit r r2 end rest read now.input now.heard now.decoded)
+    in_time now.stands failed
+
+-- the places of what is held fit in 64 bits
+pub places_end : (r r1 : Stream) (style : Style) (l : Listener) (p : Printer) (end : Option InputEnd) (rest : List ℕ) (read : ℕ)
+    (w w1 : Stream) → HeardUpTo r r1 style l p end rest read w w1 → l.first + length l.held < 2 ^ 64 - 1
+places_end r r1 style l p end rest read w w1 now =
+    let few = heard_few _ now.heard rest now.decoded.reads in
+    let within = input_within now.input (ending_of end) r r1 (read_to r r1 now.input stream_limit end now.decoded.came) in
+    omega (arith, heard_count style w w1 l p now.heard w1 now.stands, few, within)
+
+-- the whole text was written, and the result is the fault of the input, if it has one
+live : (decoding : Decoding (List Heard)) (limit : ℕ) (r r2 w w2 : Stream) (style : Style) (fault : Option CliFault)
+    (result : Result (Unit {0}) CliFault) (text : List ℕ)
+    → ((it : CliFault) → ReadsText decoding limit (IsTextIn style) r r2 (Some it) text → WritesAll w w2 text
+    → LiveOutcome decoding limit (IsTextIn style) (IsDecidedIn style) r r2 w w2 (Err it))
+    → ReadsText decoding limit (IsTextIn style) r r2 fault text → WritesAll w w2 text
+    → MatchResult result (λ _. fault ≡ None) (λ it. fault ≡ Some it)
+    → LiveOutcome decoding limit (IsTextIn style) (IsDecidedIn style) r r2 w w2 result
+live decoding limit r r2 w w2 style fault (Ok done) text faulty reads wrote is = (text, rw is at reads, wrote)
+live decoding limit r r2 w w2 style fault (Err it) text faulty reads wrote is = faulty it (rw is at reads) wrote
+
+-- a write failed, and the result says so
+stopped : (decoding : Decoding (List Heard)) (limit : ℕ) (r r2 w w2 : Stream) (style : Style) (result : Result (Unit {0}) CliFault)
+    → StopsWriting decoding limit (IsTextIn style) (IsDecidedIn style) r r2 w w2 → MatchResult result (λ _. ⊥) (λ it. it ≡ Write)
+    → LiveOutcome decoding limit (IsTextIn style) (IsDecidedIn style) r r2 w w2 result
+stopped decoding limit r r2 w w2 style (Ok done) stops never = absurd never
+stopped decoding limit r r2 w w2 style (Err it) stops is = rw is stops
+
+-- once the rest is told and written, the call has its outcome
+pub outcome : (decoding : Decoding (List Heard)) (limit : ℕ) (r r2 w w1 w2 : Stream) (style : Style) (input : List ℕ)
+    (heard : List Heard) (fault : Option CliFault) (result : Result (Unit {0}) CliFault)
+    → ((it : CliFault) (text : List ℕ) → ReadsText decoding limit (IsTextIn style) r r2 (Some it) text → WritesAll w w2 text
+    → LiveOutcome decoding limit (IsTextIn style) (IsDecidedIn style) r r2 w w2 (Err it))
+    → DecodesAll decoding limit r r2 fault input heard → WroteInTime (IsDecidedText decoding (IsDecidedIn style)) input w w1
+    → EndsText style w w1 heard fault w2 result
+    → LiveOutcome decoding limit (IsTextIn style) (IsDecidedIn style) r r2 w w2 result
+outcome decoding limit r r2 w w1 w2 style input heard fault result faulty all in_time ends =
+    elim ends.ends [
+      | inl (wrote, is) ↦
+          live decoding limit r r2 w w2 style fault result ends.text (λ it. faulty it ends.text)
+          (record {
+            input = input;
+            ending = all.ending;
+            reads = all.reads;
+            has_text = record { heard = heard; has = all.has; is_text = ends.is_text };
+            soon = all.soon;
+          })
+          wrote is
+      | inr (fails, is) ↦
+          stopped decoding limit r r2 w w2 style result
+          (record {
+            input = input;
+            ending = all.ending;
+            reads = all.reads;
+            heard = heard;
+            decoded = all.decoded;
+            text = ends.text;
+            is_text = ends.is_text;
+            fails = fails;
+            in_time = in_time_on (IsDecidedText decoding (IsDecidedIn style)) input w w1 w2 ends.more in_time ends.added;
+          })
+          is
+    ]
+
+-- once no more of an input is read, the last step says the fault of the input
+pub heard_outcome : (r r2 w w1 w2 : Stream) (style : Style) (l : Listener) (p : Printer) (end : Option InputEnd) (rest : List ℕ)
+    (read : ℕ) (fault : Option CliFault) (result : Result (Unit {0}) CliFault) → (now : HeardUpTo r r2 style l p end rest read w w1)
+    → WroteInTime (IsDecidedText heard_decoding (IsDecidedIn style)) now.input w w1
+    → IsNextStep (Opens NothingBegins) end rest (ended_length end read - length rest) (Stop fault)
+    → EndsText style w w1 now.heard fault w2 result
+    → ExplainOutcome style false r r2 w w2 result
+heard_outcome r r2 w w1 w2 style l p end rest read fault result now in_time step ended =
+    let all = decodes_all ReadsHeard NothingBegins most_heard_ahead heard_laws stream_limit r r2 end rest read now.input now.heard fault
+    now.decoded step in
+    outcome heard_decoding stream_limit r r2 w w1 w2 style now.input now.heard fault result
+    (ends_with ReadsHeard NothingBegins most_heard_ahead stream_limit (IsTextIn style) (IsDecidedIn style) r r2 w w2)
+    all in_time ended

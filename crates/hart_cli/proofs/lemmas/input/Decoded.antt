@@ -4,6 +4,8 @@ use Rattle.std.proofs.Common.{◌≢◌, ◌<◌, ◌∷◌, Err, append_assoc, 
 use Rattle.std.proofs.KnownBytes.{Consumes-trans}
 use Rattle.std.proofs.lemmas.Grind.{common_steps}
 use Rattle.std.specs.Io.KnownBytes.{Appends}
+use Rattle.hart_text.specs.Items.{Opens}
+use Rattle.hart_text.proofs.lemmas.Reads.{Laws, decided_rest}
 use Rattle.hart_cli.specs.declared.fault.CliFault.{CliFault}
 use Rattle.hart_cli.specs.declared.input.InputEnd.{InputEnd}
 use Rattle.hart_cli.specs.declared.input.InputEnd.TheVariants.{Ended, ReadFailed, TooLong}
@@ -16,25 +18,23 @@ use Rattle.hart_cli.specs.input.Decoding.{AreDecodedBy, Decoding, decoding_by, e
 use Rattle.hart_cli.specs.input.LiveInput.{IsDecidedText, LiveOutcome, ReadsText, StopsSoon, StopsWriting, TextRelation, WroteInTime}
 use Rattle.hart_cli.specs.stream.Stream.{FailsToWrite, Stream, WritesAll}
 use Rattle.hart_cli.specs.text.InputChars.{HasHeardBy, all, bad_hex, decided_bad_hex, failure}
-use Rattle.hart_cli.specs.text.Items.{Opens}
 use Rattle.hart_cli.proofs.lemmas.Writes.{in_time_on}
-use Rattle.hart_cli.proofs.lemmas.text.Reads.{Laws, decided_rest}
 
--- the bytes of one more read come after what was read before, within the limit
+-- if bytes were read, and then more within the limit, all of them were read
 pub read_more : (a b c : Stream) (text bytes : List ℕ) (room limit : ℕ) (end : Option InputEnd) → ReadsWell a b text
     → length text + room ≡ limit → ReadsPortion b c bytes room end
     → MatchOption end (ReadsWell a c (text ++ bytes) × (length (text ++ bytes) ≤ limit))
     (λ came. ReadsWithin limit a c (text ++ bytes) came)
 read_more a b c text bytes room limit end h k e = grind (arith, common_steps, Consumes-trans)
 
--- how far an input was read, whether it came to its end or not
+-- what was read of an input, by whether the input came to its end
 pub read_to : (old new : Stream) (input : List ℕ) (limit : ℕ) (end : Option InputEnd)
     → MatchOption end (ReadsWell old new input × (length input ≤ limit)) (λ came. ReadsWithin limit old new input came)
     → ReadsToWithin limit old new input (ending_of end)
 read_to old new input limit None h = inl h
 read_to old new input limit (Some end) h = h
 
--- an input was read, and decoded up to a rest from which nothing more can be decoded yet
+-- an input was read, and decoded up to a rest from which nothing can be decoded yet
 pub record DecodedUpTo {Heard : Type 0} (Reads : List ℕ → List Heard → List ℕ → Type 0) (Stops : List ℕ → Type 0)
     (most limit : ℕ) (old new : Stream) (end : Option InputEnd) (rest : List ℕ) (read : ℕ)
     (input : List ℕ) (heard : List Heard) : Type 0 where
@@ -45,19 +45,19 @@ pub record DecodedUpTo {Heard : Type 0} (Reads : List ℕ → List Heard → Lis
   pub few : length rest ≤ most
   pub still_open : end ≡ Some ReadFailed → Opens Stops rest
 
--- the length of an input with the space that is added for its end
+-- the length of an input, with the space for its end if it ended
 ended_long : (input : List ℕ) (end : Option InputEnd) → length (ended_text input (ending_of end)) ≡ ended_length end (length input)
 ended_long input None = refl
 ended_long input (Some Ended) = length-append input _
 ended_long input (Some ReadFailed) = refl
 ended_long input (Some TooLong) = refl
 
--- the space that is added for the end of an input comes after the input's last bytes
+-- the space for the end of an input follows the input's last bytes
 ended_on : (input bytes : List ℕ) (end : Option InputEnd)
     → ended_text (input ++ bytes) (ending_of end) ≡ input ++ ended_text bytes (ending_of end)
 ended_on input bytes end = grind (arith, common_steps, append_assoc)
 
--- an input is read on only if it did not come to its end, and the rest is open
+-- the call reads on only if the input did not come to its end and the rest is open
 pub read_on : (IsOpen : List ℕ → Type 0) (end : Option InputEnd) (rest : List ℕ) (place : ℕ) → IsNextStep IsOpen end rest place ReadOn
     → (end ≡ None) × IsOpen rest
 read_on IsOpen None rest place step = (refl, step)
@@ -65,7 +65,7 @@ read_on IsOpen (Some Ended) rest place step = absurd step
 read_on IsOpen (Some ReadFailed) rest place step = absurd step
 read_on IsOpen (Some TooLong) rest place step = absurd step
 
--- a next step is one for each equivalent sense of open
+-- if two meanings of open are equivalent, the next step is right for both
 pub step_by : (A B : List ℕ → Type 0) (rest : List ℕ) → (A rest → B rest) → ((A rest → ⊥) → B rest → ⊥) → (end : Option InputEnd)
     (place : ℕ) (step : NextStep) → IsNextStep A end rest place step → IsNextStep B end rest place step
 step_by A B rest to never None place ReadOn is = to is
@@ -79,7 +79,7 @@ step_by A B rest to never (Some TooLong) place ReadOn is = is
 step_by A B rest to never (Some TooLong) place (Stop fault) (inl ajar) = inl (to ajar.0, ajar.1)
 step_by A B rest to never (Some TooLong) place (Stop fault) (inr none) = inr (never none.0, none.1)
 
--- a read that did not end the input gave at least one byte, and no more than there is room for
+-- a read that did not end the input gave at least one byte, and at most the room
 pub some_long : (bytes : List ℕ) → bytes ≢ [] → 0 < length bytes
 some_long [] some = absurd (some refl)
 some_long (byte ∷ bytes) some = omega arith
@@ -90,7 +90,7 @@ more_read old new before after room portion one on =
     let reads = rw on at one.reads in
     (omega (arith, one.count, some_long one.bytes reads.1), omega (arith, one.count, reads.2))
 
--- a write failed in the last part of the text of what was decoded
+-- if a write failed within the last part of a text, the call has stopped as `StopsWriting` says
 pub stops_in : {Heard : Type 0} (decoding : Decoding Heard) (limit : ℕ) (IsText IsDecided : TextRelation Heard) (r r2 w w1 w2 : Stream)
     (input : List ℕ) (ending : Ending) (heard : Heard) (text last : List ℕ) → ReadsToWithin limit r r2 input ending
     → decoding.Decoded input ending heard → IsText heard text → WroteInTime (IsDecidedText decoding IsDecided) input w w1
@@ -115,7 +115,7 @@ module _ {Heard : Type 0} (Reads : List ℕ → List Heard → List ℕ → Type
   rest_within limit old new end rest read input chars h =
       rw h.count (omega (arith, ended_long input end, laws.shorter _ chars rest h.reads))
 
-  -- the bytes of one read are decoded after what was read before
+  -- decoding the bytes of one read continues what was decoded before
   reads_on : (input bytes ahead after rest : List ℕ) (end : Option InputEnd) (chars more : List Heard) → Reads input chars ahead
       → after ≡ ahead ++ ended_text bytes (ending_of end) → Reads after more rest
       → Reads (ended_text (input ++ bytes) (ending_of end)) (chars ++ more) rest
@@ -192,13 +192,13 @@ module _ {Heard : Type 0} (Reads : List ℕ → List Heard → List ℕ → Type
     written = rw append-nil written;
   }
 
-  -- the characters of what was read are decoded
+  -- what was read is decoded
   pub are_decoded : (limit : ℕ) (old new : Stream) (end : Option InputEnd) (rest : List ℕ) (read : ℕ) (input : List ℕ)
       (chars : List Heard) → DecodedUpTo Reads Stops most limit old new end rest read input chars
       → AreDecodedBy Reads most input (ending_of end) chars
   are_decoded limit old new end rest read input chars h = record { rest = rest; reads = h.reads; few = h.few }
 
-  -- an input that is read no further was decoded, with its fault if it has one
+  -- if no more of an input is read, it was decoded up to its end or its first fault
   decodes_to : (limit : ℕ) (r r2 : Stream) (rest input : List ℕ) (chars : List Heard) (fault : Option CliFault) (ending : Ending)
       → ReadsToWithin limit r r2 input ending → Reads (ended_text input ending) chars rest → length rest ≤ most
       → HasHeardBy Reads Stops input ending chars fault × StopsSoon most input fault
@@ -211,7 +211,7 @@ module _ {Heard : Type 0} (Reads : List ℕ → List Heard → List ℕ → Type
     soon = is.1;
   }
 
-  -- the fault of an input that is read no further is the fault of the last step
+  -- if no more of an input is read, the last step has the fault of the input
   decodes_at : (limit : ℕ) (r r2 : Stream) (end : Option InputEnd) (rest : List ℕ) (place read : ℕ) (input : List ℕ)
       (chars : List Heard) (fault : Option CliFault) → DecodedUpTo Reads Stops most limit r r2 end rest read input chars
       → place + length rest ≡ length (ended_text input (ending_of end)) → IsNextStep (Opens Stops) end rest place (Stop fault)
@@ -253,7 +253,7 @@ module _ {Heard : Type 0} (Reads : List ℕ → List Heard → List ℕ → Type
       let same : ended_length end read ≡ length (ended_text input (ending_of end)) = rw h.count (sym (ended_long input end)) in
       decodes_at limit r r2 end rest (ended_length end read - length rest) read input chars fault h (omega (arith, same, within)) step
 
--- if the text of an input was written, each fault that the input can have is an outcome of the call
+-- if the text of an input was written, the call may return any fault that the input can have
 fault_ends : {Heard : Type 0} (Reads : List ℕ → List Heard → List ℕ → Type 0) (Stops : List ℕ → Type 0) (most limit : ℕ)
     (IsText IsDecided : TextRelation (List Heard)) (r r' w w' : Stream) (input : List ℕ) (ending : Ending)
     (heard : List Heard) (fault : CliFault) → HasHeardBy Reads Stops input ending heard (Some fault)
@@ -262,7 +262,7 @@ fault_ends : {Heard : Type 0} (Reads : List ℕ → List Heard → List ℕ → 
 fault_ends Reads Stops most limit IsText IsDecided r r' w w' input _ _ _ (HasHeardBy.bad_hex _ place bad) wrote = wrote
 fault_ends Reads Stops most limit IsText IsDecided r r' w w' input _ _ _ _ wrote = wrote
 
--- if the text of an input with a fault was written, the outcome of the call is that fault
+-- if the text of an input with a fault was written, the call may return this fault
 pub ends_with : {Heard : Type 0} (Reads : List ℕ → List Heard → List ℕ → Type 0) (Stops : List ℕ → Type 0) (most limit : ℕ)
     (IsText IsDecided : TextRelation (List Heard)) (r r' w w' : Stream) (fault : CliFault) (text : List ℕ)
     → ReadsText (decoding_by Reads Stops most) limit IsText r r' (Some fault) text → WritesAll w w' text

@@ -1,19 +1,14 @@
 -- The characters of a raw input are its bytes.
-use Rattle.std.proofs.Common.{◌≡◌, ◌++◌, ℕ, List, Err, Option, Some, refl, sym, ◌∙◌}
-use Rattle.std.proofs.lemmas.List.{map-append}
+use Rattle.std.proofs.Common.{◌≡◌, ℕ, List, Err, Option, Some, refl, sym, ◌∙◌}
 use Rattle.hart_frame.specs.heard.Character.{faultless}
+use Rattle.hart_text.specs.Heard.{Heard, heard_chars}
 use Rattle.hart_cli.specs.declared.fault.CliFault.{CliFault}
 use Rattle.hart_cli.specs.input.Decoding.{HasRaw, raw_decoding}
 use Rattle.hart_cli.specs.input.Input.{Ending}
 use Rattle.hart_cli.specs.input.LiveInput.{LiveOutcome, ReadsText, TextRelation}
-use Rattle.hart_cli.specs.text.Heard.{Heard, heard_chars}
 use Rattle.hart_cli.specs.stream.Stream.{Stream, WritesAll}
 
--- the characters of two joined lists of bytes are the characters of both lists, joined
-pub faultless_on : (xs ys : List ℕ) → faultless (xs ++ ys) ≡ faultless xs ++ faultless ys
-faultless_on xs ys = map-append _ xs ys
-
--- a raw input has one list of characters and one fault
+-- a raw input has only one list of characters, and only one fault
 pub one_raw_input : (input : List ℕ) (ending : Ending) (xs ys : List Heard) (f g : Option CliFault) → HasRaw input ending xs f
     → HasRaw input ending ys g → (xs ≡ ys) × (f ≡ g)
 one_raw_input input _ _ _ _ _ (HasRaw.all xs h) (HasRaw.all ys k) = (h ∙ sym k, refl)
@@ -27,7 +22,7 @@ raw_chars input _ _ _ (HasRaw.all chars is) = is
 raw_chars input _ _ _ (HasRaw.failure chars is) = is
 raw_chars input _ _ _ (HasRaw.limit chars is) = is
 
--- if the text of a raw input was written, each fault that the input can have is an outcome of the call
+-- if the text of a raw input was written, the call may return any fault that the input can have
 raw_fault_ends : (limit : ℕ) (IsText IsDecided : TextRelation (List Heard)) (r r' w w' : Stream) (input : List ℕ) (ending : Ending)
     (heard : List Heard) (fault : CliFault) → HasRaw input ending heard (Some fault)
     → (text : List ℕ) × ReadsText raw_decoding limit IsText r r' (Some fault) text × WritesAll w w' text
@@ -35,7 +30,7 @@ raw_fault_ends : (limit : ℕ) (IsText IsDecided : TextRelation (List Heard)) (r
 raw_fault_ends limit IsText IsDecided r r' w w' input _ _ _ (HasRaw.failure chars is) wrote = wrote
 raw_fault_ends limit IsText IsDecided r r' w w' input _ _ _ (HasRaw.limit chars is) wrote = wrote
 
--- if the text of a raw input with a fault was written, the outcome of the call is that fault
+-- if the text of a raw input with a fault was written, the call may return this fault
 pub raw_ends_with : (limit : ℕ) (IsText IsDecided : TextRelation (List Heard)) (r r' w w' : Stream) (fault : CliFault)
     (text : List ℕ) → ReadsText raw_decoding limit IsText r r' (Some fault) text → WritesAll w w' text
     → LiveOutcome raw_decoding limit IsText IsDecided r r' w w' (Err fault)

@@ -16,7 +16,7 @@ use Rattle.hart_cli.specs.master.Line.{IsProper}
 use Rattle.hart_cli.specs.master.Words.{word_at}
 use Rattle.hart_cli.specs.request.Request.{ReadOutcome}
 
--- a frame with the fields of a request is a request frame
+-- an STX with burst bit 0 and without expansion bytes is a request frame
 is_request : (frame : FrameParts) → frame.kind ≡ Stx → frame.burst ≡ false → frame.expansion ≡ [] → IsRequestFrame frame
 is_request frame kind burst expansion = grind arith
 
@@ -35,7 +35,7 @@ asks_request who given ask (Ok frame) h is =
     rw same (is_request frame h.kind h.burst h.expansion)
 asks_request who given ask (Err fault) h is = absurd (grind arith)
 
--- time is no request
+-- a line that asks for time to pass asks for no request
 ticks_properly : (ask : Ask) (count : Option ℕ) → Ok ask ≡ ticked count → IsProper ask
 ticks_properly ask (Some count) is =
     let same : ask ≡ forms.Tick count = grind arith in rw same tt
@@ -55,7 +55,7 @@ words_properly who given ask (known verb _ named few by) = asks_properly who giv
 pub proper_ask : (who : MasterId) (line : List ℕ) (ask : Ask) → ReadsAsk who line (Ok ask) → IsProper ask
 proper_ask who line ask (readable _ all reads) = words_properly who _ ask reads
 
--- a value that is found is the one that a function gives
+-- if a value is searched for by a function, the function gives it
 pub found_is : (given found : Option ℕ) → Finds (λ value. given ≡ Some value) found → found ≡ given
 found_is (Some v) (Some w) h = sym h
 found_is (Some v) None h = absurd (h v refl)

@@ -1,5 +1,5 @@
 -- One line that a master answers.
-use Rattle.std.proofs.Common.{◌≡◌, ◌-◌, ◌⊎◌, ℕ, List, [], ◌∷◌, ◌++◌, Bool, true, false, Option, None, Some, Ok, Err, codes, length, take}
+use Rattle.std.proofs.Common.{◌≡◌, ◌-◌, ℕ, List, [], ◌∷◌, ◌++◌, true, false, None, Some, Ok, Err, codes, length, take}
 use Rattle.std.proofs.Common.{refl, arith, inl, inr}
 use Rattle.std.proofs.lemmas.Grind.{common_steps}
 use Rattle.hart_frame.specs.declared.heard.found.Found.{Found}
@@ -28,13 +28,13 @@ use Rattle.hart_cli.specs.session.Session.{bad_line}
 pub front : (text line : List ℕ) (count : ℕ) → text ≡ line ++ 32 ∷ [] → count ≡ length text - 1 → take count text ≡ line
 front text line count is len = grind (arith, common_steps)
 
--- a line that says what was heard is served like its items
+-- a line that says what was heard is answered as its items are
 pub serves_items : (asker after : LineMaster) (line given text said : List ℕ) → items_of line ≡ Some given → text ≡ given ++ 32 ∷ []
     → HearsItems asker text after said → ServesMasterLine asker (Some line) after said
 serves_items asker after line given text said says is (inl h) = rw h.4 (heard line given h.0 h.1 said says (rw is at h.2) h.3)
 serves_items asker after line given text said says is (inr h) = rw (h.3, h.4) (bad_hex line given h.0 h.1 says (rw is at h.2))
 
--- a line that asks something is served like what it asks
+-- a line that asks something is answered by what it asks
 pub serves_ask : (asker same after : LineMaster) (text line said : List ℕ) (ask : Ask) (count : ℕ) → same ≡ asker → text ≡ line ++ 32 ∷ []
     → count ≡ length text - 1 → items_of line ≡ None → ReadsAsk same.who (take count text) (Ok ask)
     → after ≡ with_hand asker (hand_asked asker.master ask) → IsAskedLine asker ask said → ServesMasterLine asker (Some line) after said
@@ -48,25 +48,25 @@ pub serves_bad : (asker same : LineMaster) (text line said : List ℕ) (fault : 
 serves_bad asker same text line said fault count one is len none reads answer =
     rw answer (bad_word line fault none (rw (one, front text line count is len) at reads))
 
--- nothing changes if nothing is received
+-- if nothing is received, what is in hand does not change
 received_nothing : (hand : FrameHand) → hand_received hand Nothing ≡ hand
 received_nothing Empty = refl
 received_nothing (Due t) = refl
 received_nothing (Awaiting t time) = refl
 received_nothing (hands.Answered t) = refl
 
--- the only frame of a delivery brings what it brings
+-- if a delivery has only one frame, two names for this frame bring the same reply
 same_reply : (hand : FrameHand) (found it : Found) → Alone found ≡ Alone it → BringsReply hand it.frame → BringsReply hand found.frame
 same_reply hand found it is brings =
     let same : found ≡ it = grind arith in rw same brings
 
--- what a master over frames hears in a delivery: an event with its line, and the master afterwards
+-- what a master over frames makes of a delivery: an event with its line, and the master afterwards
 pub record HearsBy (old : FrameMasterState) (delivery : List Character) (new : FrameMasterState) (said : List ℕ) : Type 0 where
   pub event : FrameEvent
   pub hears : Hears old.hand delivery event said
   pub becomes : new ≡ record old { hand = hand_received old.hand event }
 
--- a delivery without just one frame brings nothing
+-- a delivery with no frame or several frames brings no reply
 pub hears_no_frame : (old : FrameMasterState) (delivery : List Character) (lone : LoneFrame) (said : List ℕ)
     → ((frames : List Found) → AreFrames delivery 0 frames → lone ≡ lone_of frames) → ((found : Found) → lone ≡ Alone found → ⊥)
     → said ≡ dash_line → HearsBy old delivery old said
@@ -76,7 +76,7 @@ hears_no_frame old delivery lone said only none is = record {
   becomes = rw received_nothing refl;
 }
 
--- a delivery whose only frame is the reply is answered
+-- if the only frame of a delivery is the reply, the request is answered
 pub hears_reply : (old new : FrameMasterState) (delivery : List Character) (found : Found) (sendings : ℕ) (said : List ℕ)
     → AreFrames delivery 0 (found ∷ []) → IsReceived old.hand found.frame (events.Answered sendings)
     → new ≡ record old { hand = hand_received old.hand (events.Answered sendings) }
@@ -87,7 +87,7 @@ hears_reply old new delivery found sendings said alone h becomes is = record {
   becomes = rw h.1 at becomes;
 }
 
--- a delivery whose only frame is no reply brings nothing
+-- if the only frame of a delivery is not the reply, nothing happens
 pub hears_no_reply : (old new : FrameMasterState) (delivery : List Character) (found : Found) (event : FrameEvent) (said : List ℕ)
     → ((frames : List Found) → AreFrames delivery 0 frames → Alone found ≡ lone_of frames) → IsReceived old.hand found.frame event
     → ((sendings : ℕ) → event ≡ events.Answered sendings → ⊥) → new ≡ record old { hand = hand_received old.hand event }
@@ -106,7 +106,7 @@ begins_closed : (items : List ℕ) → begins_blank (items ++ 32 ∷ []) ≡ beg
 begins_closed [] = refl
 begins_closed (x ∷ xs) = refl
 
--- the items of a line that is closed by a space
+-- the items of a line that has a space after it
 pub record Items (line rest : List ℕ) : Type 0 where
   pub given : List ℕ
   pub closed : rest ≡ given ++ 32 ∷ []
@@ -120,12 +120,12 @@ items_in (a ∷ b ∷ c ∷ []) rest is = absurd (grind arith)
 items_in (a ∷ b ∷ c ∷ d ∷ []) rest is = absurd (grind arith)
 items_in (a ∷ b ∷ c ∷ d ∷ e ∷ given) rest is = record { given = given; closed = grind arith; whole = grind arith }
 
--- items that begin with a blank are the items of their line
+-- if the text after `heard` begins with a blank, it is the items of the line
 pub are_items : (line rest : List ℕ) (h : Items line rest) → begins_blank rest ≡ true → items_of line ≡ Some h.given
 are_items line rest h blank =
     let same : begins_blank h.given ≡ true = rw (h.closed, begins_closed h.given) at blank in rw (h.whole, same) refl
 
--- other items are none
+-- if the text after `heard` begins with something else, the line has no items
 pub are_none : (line rest : List ℕ) → Items line rest → begins_blank rest ≡ false → items_of line ≡ None
 are_none line rest h other =
     let same : begins_blank h.given ≡ false = rw (h.closed, begins_closed h.given) at other in rw (h.whole, same) refl

@@ -1,4 +1,4 @@
--- A line has one answer of a master.
+-- A master has only one answer to each line.
 use Rattle.std.proofs.Common.{◌≡◌, ◌<◌, ◌+◌, ◌⊎◌, ◌∙◌, ℕ, All, List, [], ◌∷◌, ◌++◌, Option, None, Some, Result, Ok, Err}
 use Rattle.std.proofs.Common.{ap, arith, codes, inl, inr, length, refl, sym}
 use Rattle.std.proofs.lemmas.Grind.{common_steps}
@@ -11,6 +11,7 @@ use Rattle.hart_frame.specs.wire.FrameParts.{FrameParts}
 use Rattle.hart_master.specs.FrameMaster.{frame_due}
 use Rattle.hart_master.specs.declared.frame_event.FrameEvent.{FrameEvent}
 use Rattle.hart_master.specs.declared.frame_hand.FrameHand.{FrameHand}
+use Rattle.hart_text.proofs.lemmas.Items.{not_both, one_place, NoPieceBegins-nil, one_reading}
 use Rattle.hart_cli.specs.declared.calls.master.ask.Ask.{Ask}
 use Rattle.hart_cli.specs.declared.calls.master.ask.Ask.TheVariants as forms
 use Rattle.hart_cli.specs.declared.calls.master.ask.Verb.{Verb}
@@ -22,11 +23,9 @@ use Rattle.hart_cli.specs.master.Line as lines
 use Rattle.hart_cli.specs.master.Line.{Hears, IsAskedLine, IsDueLine, LineMaster, ServesMasterLine}
 use Rattle.hart_cli.specs.master.Words.{AreReadable, IsFirstUnreadable, words_of}
 use Rattle.hart_cli.proofs.lemmas.FirstBad.{one_named_read, one_read}
-use Rattle.hart_cli.proofs.lemmas.text.InputChars.{not_both, one_place}
-use Rattle.hart_cli.proofs.lemmas.text.Items.{NoPieceBegins-nil, one_reading}
 use Rattle.hart_cli.proofs.lemmas.text.MessageLine.{IsMessageLine-one}
 
--- a word behind fewer words is one of more words before another one
+-- what is true of all words before the later of two words is true of the earlier one
 holds_before : (P : List ℕ → Type 0) (xs ys : List (List ℕ)) (x y : List ℕ) (s t : List (List ℕ)) → xs ++ x ∷ s ≡ ys ++ y ∷ t
     → length xs < length ys → All P ys → P x
 holds_before P xs [] x y s t same short all = absurd (omega (arith, short))
@@ -36,17 +35,17 @@ holds_before P (a ∷ xs) (b ∷ ys) x y s t same short all =
     let rest : xs ++ x ∷ s ≡ ys ++ y ∷ t = grind (arith, common_steps) in
     holds_before P xs ys x y s t rest (grind (arith, common_steps)) (All-tail P b ys all)
 
--- each of some words holds what all of them hold
+-- what is true of all words of a list is true of each of them
 holds_in : (P : List ℕ → Type 0) (xs : List (List ℕ)) (x : List ℕ) (s : List (List ℕ)) → All P (xs ++ x ∷ s) → P x
 holds_in P [] x s all = All-head P x s all
 holds_in P (a ∷ xs) x s all = holds_in P xs x s (All-tail P a (xs ++ x ∷ s) all)
 
--- a word in valid UTF-8 behind fewer than 64 words can be read
+-- a word in valid UTF-8 with fewer than 64 words before it can be read
 can_be_read : (count : ℕ) (word : List ℕ) → count < 64 → IsUtf8 word → (count ≡ 64) ⊎ (IsUtf8 word → ⊥) → ⊥
 can_be_read count word few utf8 (inl many) = omega (arith, few, many)
 can_be_read count word few utf8 (inr bad) = bad utf8
 
--- a word that cannot be read is behind no fewer words than another such word
+-- of two first unreadable words, neither comes before the other
 not_before : (words : List (List ℕ)) (m n : ℕ) (h : IsFirstUnreadable words m) (k : IsFirstUnreadable words n)
     → length h.earlier < length k.earlier → ⊥
 not_before words m n h k short =
@@ -60,13 +59,13 @@ one_number words m n h k =
     let same : length h.earlier ≡ length k.earlier = grind arith in
     h.numbered ∙ ap (λ count. count + 1) same ∙ sym k.numbered
 
--- of words that are readable, none is the first that cannot be read
+-- if words are readable, none of them is the first unreadable word
 not_both_ways : (words : List (List ℕ)) (number : ℕ) → AreReadable words → IsFirstUnreadable words number → ⊥
 not_both_ways words number all h =
     let few : length h.earlier < 64 = grind (arith, common_steps) in
     can_be_read (length h.earlier) h.word few (holds_in IsUtf8 h.earlier h.word h.later (rw h.split at all.1)) h.bad
 
--- words ask one thing
+-- the words of a line ask only one thing
 one_asked : (who : MasterId) (words : List (List ℕ)) (verb : Verb) (a b : Result Ask CliFault) → AsksBy who words verb a
     → AsksBy who words verb b → a ≡ b
 one_asked who words verbs.Submit a b h k = h.2 ∙ ap submitted (one_read (message_words who words) h.0 k.0 h.1 k.1) ∙ sym k.2
@@ -89,14 +88,14 @@ one_reading_of who words _ _ (known v _ is few by) (too_many w also many) =
 one_reading_of who words a b (known v _ is few by) (known w _ also fewer asks) =
     let same : v ≡ w = grind arith in one_asked who words w a b (rw same at by) asks
 
--- a line asks one thing
+-- a line asks only one thing
 one_ask : (who : MasterId) (line : List ℕ) (a b : Result Ask CliFault) → ReadsAsk who line a → ReadsAsk who line b → a ≡ b
 one_ask who line _ _ (unreadable m h) (unreadable n k) = let same : m ≡ n = one_number (words_of line) m n h k in rw same refl
 one_ask who line _ _ (unreadable m h) (readable _ all reads) = absurd (not_both_ways (words_of line) m all h)
 one_ask who line _ _ (readable _ all reads) (unreadable n k) = absurd (not_both_ways (words_of line) n all k)
 one_ask who line a b (readable _ all reads) (readable _ also again) = one_reading_of who (words_of line) a b reads again
 
--- what is asked has one answer
+-- there is only one answer to what a line asks
 one_due : (preambles : ℕ) (due : Option FrameParts) (xs ys : List ℕ) → IsDueLine preambles due xs → IsDueLine preambles due ys → xs ≡ ys
 one_due preambles None xs ys h k = h ∙ sym k
 one_due preambles (Some frame) xs ys h k =
@@ -108,7 +107,7 @@ one_said asker (forms.Submit request) xs ys h k = h ∙ sym k
 one_said asker forms.Send xs ys h k = one_due asker.preambles (frame_due asker.master.hand) xs ys h k
 one_said asker (forms.Tick count) xs ys h k = h ∙ sym k
 
--- a delivery brings one event, which has one line
+-- a delivery brings only one event, and this event has only one line
 one_event : (hand : FrameHand) (delivery : List Character) (a b : FrameEvent) (xs ys : List ℕ) → Hears hand delivery a xs
     → Hears hand delivery b ys → (a ≡ b) × (xs ≡ ys)
 one_event hand delivery _ _ _ _ (lines.answered f alone brings) (lines.answered g also again) =
@@ -118,7 +117,7 @@ one_event hand delivery _ _ _ _ (lines.answered f alone brings) (lines.nothing n
 one_event hand delivery _ _ _ _ (lines.nothing none) (lines.answered g also again) = absurd (none g also again)
 one_event hand delivery _ _ _ _ (lines.nothing none) (lines.nothing more) = (refl, refl)
 
--- a line has one answer, and leads to one master
+-- a line has only one answer, and leads to only one master
 pub one_line : (asker a b : LineMaster) (line : Option (List ℕ)) (xs ys : List ℕ) → ServesMasterLine asker line a xs
     → ServesMasterLine asker line b ys → (a ≡ b) × (xs ≡ ys)
 one_line asker _ _ None _ _ lines.too_long lines.too_long = (refl, refl)

@@ -1,24 +1,22 @@
 -- Sessions of a master keep the promise.
-use Rattle.std.proofs.Common.{◌≡◌, ◌≤◌, ◌<◌, ◌+◌, ℕ, Bool, true, false, All, List, [], ◌∷◌, ◌++◌, Option, None, Some, Ok, Err, Result}
-use Rattle.std.proofs.Common.{append_assoc, append-nil, ap, arith, codes, cond, count_by, map, nat_le, nat_lt, refl, sym, ◌∙◌}
+use Rattle.std.proofs.Common.{◌≡◌, ◌≤◌, ◌+◌, ℕ, Bool, true, false, List, [], ◌∷◌, ◌++◌, Option, None, Some, Ok}
+use Rattle.std.proofs.Common.{append_assoc, append-nil, ap, arith, codes, cond, map, nat_le, nat_lt, refl, sym}
 use Rattle.std.proofs.lemmas.Bool.Decides.{nat_tests}
-use Rattle.std.proofs.lemmas.Grind.{common_steps}
 use Rattle.std.proofs.lemmas.List.Elements.{All-append, All-cons, All-nil}
 use Rattle.std.proofs.lemmas.List.Sums.{sum_by_push}
 use Rattle.hart_values.specs.declared.master_id.MasterId.{MasterId}
 use Rattle.hart_frame.specs.wire.FrameParts.{FrameParts}
-use Rattle.hart_frame.specs.declared.heard.found.Found.{Found}
 use Rattle.hart_frame.specs.heard.Character.{Character}
-use Rattle.hart_frame.specs.heard.Frames.{AreFrames}
 use Rattle.std.specs.List.{flat_map}
-use Rattle.hart_master.specs.FrameMaster.{BringsReply, event_ticked, frame_due, hand_received, hand_sent, hand_submitted, hand_ticked}
-use Rattle.hart_master.specs.FrameMaster.{result_submitted, sendings_of}
+use Rattle.hart_master.specs.FrameMaster.{event_ticked, frame_due, hand_received, hand_sent, hand_submitted, hand_ticked}
+use Rattle.hart_master.specs.FrameMaster.{result_submitted}
 use Rattle.hart_master.specs.Master.{time_ticked}
 use Rattle.hart_master.specs.Pairing.{may_send}
 use Rattle.hart_master.specs.declared.frame_event.FrameEvent.{FrameEvent}
 use Rattle.hart_master.specs.declared.frame_hand.FrameHand.{FrameHand}
 use Rattle.hart_master.specs.declared.frame_hand.FrameHand.TheVariants.{Answered, Awaiting, Due, Empty}
 use Rattle.hart_master.specs.declared.frame_hand.FrameTransaction.{FrameTransaction}
+use Rattle.hart_text.specs.Items.{ReadsAs}
 use Rattle.hart_cli.specs.declared.calls.master.ask.Ask.{Ask}
 use Rattle.hart_cli.specs.declared.calls.master.ask.Ask.TheVariants.{Send, Submit, Tick}
 use Rattle.hart_cli.specs.master.Ask.{ReadsAsk}
@@ -29,14 +27,13 @@ use Rattle.hart_cli.specs.master.Promise.{Exchange, IsInHand, KeepsPromise, Keep
 use Rattle.hart_cli.specs.master.Promise.{is_quiet, is_sending, is_turn, nothing, quiet, sends, tries_again}
 use Rattle.hart_cli.specs.session.Session as sessions
 use Rattle.hart_cli.specs.session.Session.{Serves, line_read}
-use Rattle.hart_cli.specs.text.Items.{ReadsAs}
 use Rattle.hart_cli.proofs.lemmas.session.Lines.{reads_same}
 
--- a list of exchanges with one more
+-- a list of exchanges, with one more exchange at its end
 abbrev also : List Exchange → List ℕ → List ℕ → List Exchange
 also before line said = before ++ record { line = line; said = said } ∷ []
 
--- what a master has in hand is what the exchanges before say
+-- the earlier exchanges tell what a master has in hand
 abbrev Tracks : (who : MasterId) (retries : ℕ) (before : List Exchange) → FrameHand → Type 0
 Tracks who retries before Empty = Unit {0}
 Tracks who retries before (Due transaction) =
@@ -45,7 +42,8 @@ Tracks who retries before (Awaiting transaction time) =
     IsInHand who before transaction.request transaction.sendings × (1 ≤ transaction.sendings) × (transaction.sendings ≤ retries + 1)
 Tracks who retries before (Answered transaction) = Unit {0}
 
--- one more exchange, which neither begins nor ends a request, counts if it sends the message
+-- after one more exchange that neither begins nor ends a request, the same request is in hand; it was sent once more if the exchange sent
+-- it
 goes_on : (who : MasterId) (before : List Exchange) (request : FrameParts) (sendings : ℕ) (line said : List ℕ) (sent : Bool)
     → IsInHand who before request sendings → is_turn (record { line = line; said = said }) ≡ false
     → is_sending (record { line = line; said = said }) ≡ sent → IsInHand who (also before line said) request (sendings + cond sent 1 0)
@@ -62,7 +60,7 @@ goes_on who before request sendings line said sent h turns is_sent =
       counted = rw (h.counted, ← is_sent) (sym (sum_by_push (λ exchange. cond (is_sending exchange) 1 0) h.since next));
     }
 
--- the same of an exchange that sends nothing
+-- after an exchange that neither begins nor ends a request and sends nothing, the same request is in hand, sent as often
 stays : (who : MasterId) (before : List Exchange) (request : FrameParts) (sendings : ℕ) (line said : List ℕ)
     → IsInHand who before request sendings → is_turn (record { line = line; said = said }) ≡ false
     → is_sending (record { line = line; said = said }) ≡ false → IsInHand who (also before line said) request sendings
@@ -70,7 +68,7 @@ stays who before request sendings line said h turns silent =
     let same : sendings + 0 ≡ sendings = omega arith in
     rw same at (goes_on who before request sendings line said false h turns silent)
 
--- an exchange that concerns no request changes nothing of what is tracked
+-- after an exchange that concerns no request, the exchanges still tell what is in hand
 tracks_on : (who : MasterId) (retries : ℕ) (before : List Exchange) (hand : FrameHand) (line said : List ℕ)
     → Tracks who retries before hand → is_turn (record { line = line; said = said }) ≡ false
     → is_sending (record { line = line; said = said }) ≡ false → Tracks who retries (also before line said) hand
@@ -80,12 +78,12 @@ tracks_on who retries before (Awaiting t time) line said h turns silent =
     (stays who before t.request t.sendings line said h.0 turns silent, h.1, h.2)
 tracks_on who retries before (Answered t) line said h turns silent = tt
 
--- a line was answered: the answer keeps the promise, and what is in hand afterwards is tracked
+-- a step of a session: the answer keeps the promise, and the exchanges tell what is in hand afterwards
 record Step (who : MasterId) (preambles retries : ℕ) (before : List Exchange) (line said : List ℕ) (hand : FrameHand) : Type 0 where
   pub keeps : KeepsPromise who preambles retries before line said
   pub tracks : Tracks who retries (also before line said) hand
 
--- a quiet answer leaves what is in hand
+-- a quiet answer that leaves what is in hand is a step
 quietly : (who : MasterId) (preambles retries : ℕ) (before : List Exchange) (hand : FrameHand) (line said : List ℕ)
     → Tracks who retries before hand → is_quiet said ≡ true → is_turn (record { line = line; said = said }) ≡ false
     → is_sending (record { line = line; said = said }) ≡ false → Step who preambles retries before line said hand
@@ -94,7 +92,7 @@ quietly who preambles retries before hand line said h is turns silent = record {
   tracks = tracks_on who retries before hand line said h turns silent;
 }
 
--- a delivery was heard
+-- hearing a delivery is a step
 hears : (who : MasterId) (preambles retries : ℕ) (before : List Exchange) (hand : FrameHand) (line items said : List ℕ)
     (delivery : List Character) (event : FrameEvent) → Tracks who retries before hand → items_of line ≡ Some items
     → ReadsAs items delivery → Hears hand delivery event said → Step who preambles retries before line said (hand_received hand event)
@@ -115,7 +113,7 @@ hears who preambles retries before (Awaiting t time) line items _ delivery _ h s
 hears who preambles retries before (Answered t) line items _ delivery _ h says reads (lines.nothing none) =
     quietly who preambles retries before (Answered t) line _ h refl refl refl
 
--- a request was taken in hand
+-- after a request was taken, it is in hand and not sent yet
 takes : (who : MasterId) (before : List Exchange) (line : List ℕ) (request : FrameParts) → ReadsAsk who line (Ok (Submit request))
     → IsInHand who (also before line (codes "ok\n")) request 0
 takes who before line request asked = record {
@@ -128,7 +126,7 @@ takes who before line request asked = record {
   counted = refl;
 }
 
--- a request was submitted while nothing was in hand
+-- submitting a request while nothing is in hand is a step
 submits_idle : (who : MasterId) (preambles retries : ℕ) (before : List Exchange) (line : List ℕ) (request : FrameParts) (may : Bool)
     → may_send request ≡ may → ReadsAsk who line (Ok (Submit request))
     → Step who preambles retries before line (submitted_line (result_submitted Empty request)) (hand_submitted Empty request)
@@ -161,7 +159,7 @@ submits who preambles retries before (Awaiting t time) line request h asked = re
   tracks = tracks_on who retries before (Awaiting t time) line _ h refl refl;
 }
 
--- the message that is due was asked for
+-- asking for the message that is due is a step
 asks_due : (asker : LineMaster) (before : List Exchange) (hand : FrameHand) (line said : List ℕ)
     → Tracks asker.who asker.master.retries before hand → IsDueLine asker.preambles (frame_due hand) said
     → Step asker.who asker.preambles asker.master.retries before line said (hand_sent hand)
@@ -178,7 +176,7 @@ asks_due asker before (Due t) line said h is = record {
   );
 }
 
--- time has passed while a reply was awaited
+-- letting time pass while a reply is awaited is a step
 waits : (who : MasterId) (preambles retries limit : ℕ) (before : List Exchange) (t : FrameTransaction) (time count : ℕ) (line : List ℕ)
     (early few : Bool) → Tracks who retries before (Awaiting t time) → nat_lt (time_ticked time count) limit ≡ early
     → nat_le t.sendings retries ≡ few
@@ -196,7 +194,7 @@ waits who preambles retries limit before t time count line false false h late ma
     let all : t.sendings ≡ retries + 1 = grind (arith, nat_tests, h.2) in
     rw (late, many, all) (record { keeps = gives_up t.request (rw all at h.0); tracks = tt })
 
--- time has passed
+-- letting time pass is a step
 ticks : (who : MasterId) (preambles retries limit : ℕ) (before : List Exchange) (hand : FrameHand) (count : ℕ) (line : List ℕ)
     → Tracks who retries before hand
     → Step who preambles retries before line (ticked_line (event_ticked retries limit hand count)) (hand_ticked retries limit hand count)
@@ -208,7 +206,7 @@ ticks who preambles retries limit before (Awaiting t time) count line h =
     waits who preambles retries limit before t time count line (nat_lt (time_ticked time count) limit)
     (nat_le t.sendings retries) h refl refl
 
--- what a line asks was done
+-- doing what a line asks is a step
 obeys : (asker : LineMaster) (before : List Exchange) (line said : List ℕ) (ask : Ask)
     → Tracks asker.who asker.master.retries before asker.master.hand → ReadsAsk asker.who line (Ok ask) → IsAskedLine asker ask said
     → Step asker.who asker.preambles asker.master.retries before line said (hand_asked asker.master ask)
@@ -218,7 +216,7 @@ obeys asker before line said Send h asked is = asks_due asker before asker.maste
 obeys asker before line said (Tick count) h asked is =
     rw is (ticks asker.who asker.preambles asker.master.retries asker.master.reply_limit before asker.master.hand count line h)
 
--- a master answered a line, and is the same but for what it has in hand
+-- a master answered a line in a step, and only what it has in hand may have changed
 record Stepped (asker next : LineMaster) (before : List Exchange) (line said : List ℕ) : Type 0 where
   pub who : next.who ≡ asker.who
   pub preambles : next.preambles ≡ asker.preambles

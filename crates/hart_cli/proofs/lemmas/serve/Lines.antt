@@ -4,25 +4,24 @@ use Rattle.hart_frame.specs.heard.Character.{Character}
 use Rattle.hart_frame.specs.wire.FrameParts.{FrameParts}
 use Rattle.hart_device.specs.Device.{DeviceState}
 use Rattle.hart_device.proofs.lemmas.Laws.{deliveries_bring_one-one}
+use Rattle.hart_text.proofs.lemmas.Items.{not_both, one_place, NoPieceBegins-nil, one_reading}
 use Rattle.hart_cli.specs.serve.Line.{Hears, IsReplyLine, ServesLine, bad_hex, delivery, too_long, word}
-use Rattle.hart_cli.proofs.lemmas.text.InputChars.{not_both, one_place}
-use Rattle.hart_cli.proofs.lemmas.text.Items.{NoPieceBegins-nil, one_reading}
 use Rattle.hart_cli.proofs.lemmas.text.MessageLine.{IsMessageLine-one}
 
--- an answer has one line
+-- an answer has only one line
 one_reply : (device : DeviceState) (answer : Option FrameParts) (xs ys : List ℕ) → IsReplyLine device answer xs
     → IsReplyLine device answer ys → xs ≡ ys
 one_reply device None xs ys h k = h ∙ sym k
 one_reply device (Some reply) xs ys h k = IsMessageLine-one reply reply device.identity.response_preambles xs ys refl h k
 
--- what a device hears leads to one state and one line
+-- a delivery leads to only one state and one line
 one_hearing : (device a b : DeviceState) (heard : List Character) (xs ys : List ℕ) → Hears device heard a xs → Hears device heard b ys
     → (a ≡ b) × (xs ≡ ys)
 one_hearing device a b heard xs ys h k =
     let same = deliveries_bring_one-one device.identity heard h.brought k.brought h.brings k.brings in
     grind (arith, one_reply)
 
--- a line is served in one way
+-- a line can be served in only one way
 pub one_line : (device a b : DeviceState) (line : Option (List ℕ)) (xs ys : List ℕ) → ServesLine device line a xs
     → ServesLine device line b ys → (a ≡ b) × (xs ≡ ys)
 one_line device _ _ None _ _ too_long too_long = (refl, refl)

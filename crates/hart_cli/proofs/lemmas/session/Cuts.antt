@@ -29,7 +29,7 @@ cut_lines text parts rest cut =
     ap lines_of cut.all ∙ (ap (map strip_carriage_return) (parts_split parts rest cut.whole cut.open_end)
     ∙ map-append strip_carriage_return parts (rest ∷ []))
 
--- a cut text has its parts as lines, and its rest too if the ending makes the rest a line
+-- the lines of a cut text are its parts; its rest is a line too if the ending says so
 pub cut_has_lines : (text : List ℕ) (ending : Ending) (parts : List (List ℕ)) (rest : List ℕ) → IsCut text parts rest
     → HasLines text ending (map strip_carriage_return parts ++ last_lines ending (strip_carriage_return rest))
 cut_has_lines text ending parts rest cut = record {
@@ -39,7 +39,7 @@ cut_has_lines text ending parts rest cut = record {
   all = refl;
 }
 
--- if no part in two lists has a line feed, none in the joined list has one
+-- if no part of two lists contains a line feed, no part of the joined list does
 all_parts : (xs ys : List (List ℕ)) → AllByRecursion HasNoFeed xs → AllByRecursion HasNoFeed ys → AllByRecursion HasNoFeed (xs ++ ys)
 all_parts [] ys h k = k
 all_parts (x ∷ xs) ys h k = (h.0, all_parts xs ys h.1 k)
@@ -48,11 +48,11 @@ all_parts (x ∷ xs) ys h k = (h.0, all_parts xs ys h.1 k)
 pub cut_rest : (rest : List ℕ) → HasNoFeed rest → IsCut rest [] rest
 cut_rest rest free = record { all = refl; whole = tt; open_end = free }
 
--- a part with a line feed after it is cut into this part alone
+-- a text of one part and a line feed is cut into this part
 pub cut_part : (part : List ℕ) → HasNoFeed part → IsCut (part ++ 10 ∷ []) (part ∷ []) []
 cut_part part free = record { all = grind (arith, common_steps); whole = (free, tt); open_end = All-nil _ }
 
--- more bytes after a text leave its parts as they are: the later parts are cut from its rest and these bytes
+-- if more bytes follow a text, its parts stay, and its rest and these bytes are cut into the later parts
 pub cut_on : (text more : List ℕ) (parts : List (List ℕ)) (rest : List ℕ) (later : List (List ℕ)) (last : List ℕ)
     → IsCut text parts rest → IsCut (rest ++ more) later last → IsCut (text ++ more) (parts ++ later) last
 cut_on text more parts rest later last h k =
@@ -70,7 +70,7 @@ pub record Cut (text : List ℕ) : Type 0 where
   pub rest : List ℕ
   pub cut : IsCut text parts rest
 
--- if a text has a cut, the text with one more byte before it has a cut too
+-- if a text can be cut, so can the text with one more byte before it
 byte_first : (x : ℕ) (xs : List ℕ) (parts : List (List ℕ)) (rest : List ℕ) (feeds : Bool) → (x == 10) ≡ feeds → IsCut xs parts rest
     → Cut (x ∷ xs)
 byte_first x xs parts rest true is h = record {
@@ -93,7 +93,7 @@ byte_first x xs (part ∷ parts) rest false is h = record {
   };
 }
 
--- each text has a cut
+-- each text can be cut
 pub every_cut : (text : List ℕ) → Cut text
 every_cut [] = record { parts = []; rest = []; cut = cut_rest [] (All-nil _) }
 every_cut (x ∷ xs) = let more = every_cut xs in byte_first x xs more.parts more.rest (x == 10) refl more.cut

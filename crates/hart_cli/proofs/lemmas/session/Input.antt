@@ -18,7 +18,7 @@ use Rattle.hart_cli.proofs.lemmas.session.Cuts.{cut_has_lines, cut_on}
 use Rattle.hart_cli.proofs.lemmas.session.Served.{Serves-on}
 use Rattle.hart_cli.proofs.lemmas.session.Server.{parts_on}
 
--- an input was read so far, and all of the station's answers to its whole lines were written
+-- an input was read so far, and the station's answers to all its whole lines were written
 pub record ServedUpTo {S : Type 0} (M : Manner S) (station : S) (server : ServerState S) (room : ℕ)
     (old new writer writer_after : Stream) : Type 0 where
   pub input : List ℕ
@@ -32,7 +32,7 @@ pub record ServedUpTo {S : Type 0} (M : Manner S) (station : S) (server : Server
   pub serves : ServesParts M station parts server.station said
   pub wrote : WritesAll writer writer_after said
 
--- the bytes of the last read were served, and the input came to its end
+-- if the last read was served and the input ended with it, the whole input was served
 pub served_end : {S : Type 0} (M : Manner S) (station : S) (now next : ServerState S) (room : ℕ) (r r1 r2 w w1 w2 : Stream)
     (bytes : List ℕ) (end : InputEnd)
     → (h : ServedUpTo M station now room r r1 w w1) → ReadsPortion r1 r2 bytes room (Some end) → now.kept ≡ [] → next.kept ≡ []
@@ -52,7 +52,7 @@ served_end M station now next room r r1 r2 w w1 w2 bytes end h more was quiet k 
       wrote = WritesAll-on w w1 w2 h.said k.said h.wrote (rw same at k.adds.wrote);
     }
 
--- the bytes of one read were served, and the input may go on
+-- if one more read was served and the input may go on, the input was served so far
 pub served_on : {S : Type 0} (M : Manner S) (station : S) (now next : ServerState S) (room : ℕ) (r r1 r2 w w1 w2 : Stream) (bytes : List ℕ)
     → (h : ServedUpTo M station now room r r1 w w1) → ReadsPortion r1 r2 bytes room None → now.kept ≡ [] → next.kept ≡ []
     → ServesWhole M now next (h.rest ++ bytes) w1 w2 → ServedUpTo M station next (room - length bytes) r r2 w w2
@@ -71,7 +71,7 @@ served_on M station now next room r r1 r2 w w1 w2 bytes h more was quiet k =
       wrote = WritesAll-on w w1 w2 h.said k.said h.wrote (rw same at k.adds.wrote);
     }
 
--- answers were written in time: the answers to the whole lines of an input without its last bytes had been written
+-- no answer was late: those to the whole lines before the last read had been written
 said_in_time : {S : Type 0} (M : Manner S) (station after : S) (input bytes : List ℕ) (parts : List (List ℕ)) (rest said : List ℕ)
     (w w1 w2 : Stream)
     → IsCut input parts rest → ServesParts M station parts after said → WritesAll w w1 said → length bytes ≤ most_at_once
@@ -92,7 +92,7 @@ said_in_time M station after input bytes parts rest said w w1 w2 cut serves wrot
   written = Appends-trans _ _ _ said more wrote.0 written;
 }
 
--- a write failed within the answers to the lines that one read completed
+-- if a write failed within the answers of one read, the call has stopped as `StopsSaying` says
 pub stops_saying : {S : Type 0} (M : Manner S) (station : S) (now : ServerState S) (room : ℕ) (r r1 r2 w w1 w2 : Stream)
     (bytes : List ℕ) (end : Option InputEnd)
     → (h : ServedUpTo M station now room r r1 w w1) → ReadsPortion r1 r2 bytes room end → length bytes ≤ most_at_once → now.kept ≡ []
@@ -119,7 +119,7 @@ stops_saying M station now room r r1 r2 w w1 w2 bytes end h more few was k =
           fails.0.prefix fails.0.written;
     }
 
--- the last line was served too
+-- if the last line was served too, the call has served its whole input
 pub serves_to : {S : Type 0} (M : Manner S) (station after : S) (server : ServerState S) (r r1 w w1 w2 : Stream) (said : List ℕ)
     → (h : ServesAll M station server Ended r r1 w w1)
     → Serves M server.station (last_lines (CameTo Ended) (strip_carriage_return h.rest)) after said
@@ -140,7 +140,7 @@ serves_to M station after server r r1 w w1 w2 said h serves wrote =
       wrote = WritesAll-on w w1 w2 h.said said h.wrote wrote;
     }
 
--- a write failed within the answer to the last line
+-- if a write failed within the answer to the last line, the call has stopped as `StopsSaying` says
 pub stops_at_last : {S : Type 0} (M : Manner S) (station after : S) (server : ServerState S) (r r1 w w1 w2 : Stream) (said : List ℕ)
     → (h : ServesAll M station server Ended r r1 w w1)
     → Serves M server.station (last_lines (CameTo Ended) (strip_carriage_return h.rest)) after said
@@ -163,7 +163,7 @@ stops_at_last M station after server r r1 w w1 w2 said h serves fails =
           (omega arith) fails.0.prefix fails.0.written);
     }
 
--- if the ending leaves no last line, the whole lines are all that is served
+-- if the last line does not count, the whole lines are all that is served
 pub serves_whole : {S : Type 0} (M : Manner S) (station : S) (server : ServerState S) (end : InputEnd) (r r1 w w1 : Stream)
     → (h : ServesAll M station server end r r1 w w1) → last_lines (CameTo end) (strip_carriage_return h.rest) ≡ []
     → ServesTo M station (CameTo end) r r1 w w1

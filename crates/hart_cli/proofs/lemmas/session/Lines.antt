@@ -1,5 +1,5 @@
 -- One line that a station serves.
-use Rattle.std.proofs.Common.{◌≡◌, ◌≤◌, ◌<◌, ◌+◌, ℕ, Bool, true, false, List, [], length, take, None, Some, if◌then◌else◌, nat_le, refl}
+use Rattle.std.proofs.Common.{◌≡◌, ◌≤◌, ◌<◌, ◌+◌, ℕ, Bool, true, false, List, [], length, take, None, Some, nat_le, refl}
 use Rattle.std.proofs.Common.{sym, ap, ◌∙◌, arith}
 use Rattle.std.proofs.lemmas.Grind.{common_steps}
 use Rattle.std.proofs.lemmas.Bool.Decides.{nat_tests}
@@ -8,7 +8,7 @@ use Rattle.hart_cli.specs.input.Input.{input_limit}
 use Rattle.hart_cli.specs.session.Session.{line_read}
 use Rattle.hart_cli.specs.session.Server.{most_kept}
 
--- at most one carriage return is stripped
+-- stripping a carriage return removes at most one byte
 pub strips_one : (part : List ℕ)
     → (length (strip_carriage_return part) ≤ length part) × (length part ≤ length (strip_carriage_return part) + 1)
 strips_one part = grind (arith, common_steps)
@@ -33,21 +33,21 @@ kept_long : (part : List ℕ) (most : ℕ) → most < length (strip_carriage_ret
     → most < length (strip_carriage_return part) + 2
 kept_long part most long = grind (arith, common_steps, strips_one part, strips_one (take most part))
 
--- a line within the limit is read, and nothing is read of a longer one
+-- a line within the limit is read whole, and nothing is read of a longer one
 pub reads_short : (line : List ℕ) → length line ≤ input_limit → line_read line ≡ Some line
 reads_short line few = grind (arith, nat_tests)
 
 pub reads_long : (line : List ℕ) → input_limit < length line → line_read line ≡ None
 reads_long line long = grind (arith, nat_tests)
 
--- what a test of two numbers says
+-- a test that compares two numbers is true exactly if the numbers compare so
 le_of_test : (m n : ℕ) → nat_le m n ≡ true → m ≤ n
 le_of_test m n is = grind (arith, nat_tests)
 
 lt_of_test : (m n : ℕ) → nat_le m n ≡ false → n < m
 lt_of_test m n is = grind (arith, nat_tests)
 
--- the same is read of a part and of its kept bytes
+-- reading the kept bytes of a part gives the same as reading the part
 reads_alike : (part : List ℕ) (is_short : Bool) → nat_le (length (strip_carriage_return (take most_kept part))) input_limit ≡ is_short
     → line_read (strip_carriage_return (take most_kept part)) ≡ line_read (strip_carriage_return part)
 reads_alike part true few =
@@ -59,6 +59,6 @@ reads_alike part false long =
 pub reads_kept : (part : List ℕ) → line_read (strip_carriage_return (take most_kept part)) ≡ line_read (strip_carriage_return part)
 reads_kept part = reads_alike part _ refl
 
--- what is read of a line is the line
+-- if a line is read, it is read as it is
 pub reads_same : (line read : List ℕ) → line_read line ≡ Some read → read ≡ line
 reads_same line read is = grind (arith, common_steps)

@@ -1,5 +1,5 @@
 -- Texts of a station's answers to lines.
-use Rattle.std.proofs.Common.{◌≡◌, ◌≢◌, ℕ, List, [], ◌∷◌, ◌++◌, Option, length, take, refl, sym, ap, ◌∙◌, append_assoc, append-nil, arith}
+use Rattle.std.proofs.Common.{◌≡◌, ◌≢◌, ℕ, List, [], ◌∷◌, ◌++◌, Option, take, refl, sym, ap, ◌∙◌, append_assoc, append-nil, arith}
 use Rattle.std.proofs.lemmas.Grind.{common_steps}
 use Rattle.std.specs.Str.Lines.{strip_carriage_return}
 use Rattle.hart_cli.specs.input.Input.{CameTo, Ending}
@@ -15,12 +15,12 @@ Serves-on M _ b c _ ys _ t (nothing _) k = k
 Serves-on M a b c _ ys _ t (first _ next _ one lines said text begun h) k =
     rw append_assoc (first a next c one (lines ++ ys) said (text ++ t) begun (Serves-on M next b c lines ys text t h k))
 
--- each line has one answer, and leads to one station
+-- each line has only one answer, and leads to only one station
 abbrev pub OneAnswer : {S : Type 0} → Manner S → Type 0
 OneAnswer {S} M =
     (station a b : S) (line : Option (List ℕ)) (xs ys : List ℕ) → M station line a xs → M station line b ys → (a ≡ b) × (xs ≡ ys)
 
--- the text of a station's answers to given lines is unique
+-- the text of a station's answers to some lines is unique
 pub one_text : {S : Type 0} (M : Manner S) → OneAnswer M → (station a b : S) (lines : List (List ℕ)) (xs ys : List ℕ)
     → Serves M station lines a xs → Serves M station lines b ys → (a ≡ b) × (xs ≡ ys)
 one_text M one _ _ _ _ _ _ (nothing station) (nothing _) = (refl, refl)
@@ -39,7 +39,7 @@ one_last (x1 ∷ xs) (y1 ∷ ys) x y same =
     let tails : xs ++ x ∷ [] ≡ ys ++ y ∷ [] = grind arith in
     let more = one_last xs ys x y tails in grind arith
 
--- an input has one list of lines
+-- an input has only one list of lines
 pub one_list : (input : List ℕ) (ending : Ending) (xs ys : List (List ℕ)) → HasLines input ending xs → HasLines input ending ys → xs ≡ ys
 one_list input ending xs ys h k =
     let same = one_last h.whole k.whole h.last k.last (sym h.split ∙ k.split) in grind arith
@@ -49,7 +49,7 @@ last_of : (last : List ℕ) → last ≢ [] → last_lines (CameTo Ended) last �
 last_of [] some = absurd (some refl)
 last_of (byte ∷ more) some = refl
 
--- a last line that is not empty is served like its kept bytes
+-- serving the kept bytes of a last line that is not empty serves that line
 pub serves_last_line : {S : Type 0} (M : Manner S) (station after : S) (part kept said : List ℕ) → kept ≡ take most_kept part
     → M station (line_read (strip_carriage_return kept)) after said → strip_carriage_return kept ≢ []
     → Serves M station (last_lines (CameTo Ended) (strip_carriage_return part)) after said

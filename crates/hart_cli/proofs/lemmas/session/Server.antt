@@ -17,7 +17,7 @@ use Rattle.hart_cli.proofs.lemmas.session.Cuts.{cut_on, cut_part, cut_rest, ever
 use Rattle.hart_cli.proofs.lemmas.session.Lines.{reads_kept}
 use Rattle.hart_cli.proofs.lemmas.session.Served.{Serves-on}
 
--- cutting the first of two joined texts to `most` bytes does not change the first `most` bytes of the whole
+-- cutting the first of two joined texts to `most` bytes does not change the first `most` bytes of both
 take_more : (most : ℕ) (xs ys : List ℕ) → take most (take most xs ++ ys) ≡ take most (xs ++ ys)
 take_more most xs ys = grind (arith, common_steps, take-append-le)
 
@@ -27,13 +27,13 @@ one_part : {S : Type 0} (M : Manner S) (station after : S) (part said : List ℕ
 one_part M station after part said h =
     rw (← append-nil said) (first station after after (strip_carriage_return part) [] said [] h (nothing after))
 
--- parts are served, and then more parts
+-- if some parts were served and then others, all of them were served
 pub parts_on : {S : Type 0} (M : Manner S) (a b c : S) (xs ys : List (List ℕ)) (s t : List ℕ) → ServesParts M a xs b s
     → ServesParts M b ys c t → ServesParts M a (xs ++ ys) c (s ++ t)
 parts_on M a b c xs ys s t h k =
     rw map-append (Serves-on M a b c (map strip_carriage_return xs) (map strip_carriage_return ys) s t h k)
 
--- nothing was read yet
+-- at first, nothing is read and nothing is served
 serves_none : {S : Type 0} (M : Manner S) (server : ServerState S) (part : List ℕ) (w : Stream) → HasNoFeed part → Keeps server part
     → ServesWhole M server server (part ++ []) w w
 serves_none M server part w free keeps = record {
@@ -46,7 +46,7 @@ serves_none M server part w free keeps = record {
   adds = adds_kept w server.kept server.kept [] (sym (append-nil server.kept));
 }
 
--- one more part was read and served
+-- after one more part is read and served, the text up to its end is served
 serves_next : {S : Type 0} (M : Manner S) (old now kept next : ServerState S) (text piece : List ℕ) (w w1 w2 : Stream)
     → ServesWhole M old now text w w1 → HasNoFeed piece → kept.station ≡ now.station → kept.part ≡ take most_kept (now.part ++ piece)
     → AddsText w1 w2 now.kept kept.kept [] → ServesPart M kept next → ServesWhole M old next (text ++ (piece ++ 10 ∷ [])) w w2
@@ -70,7 +70,7 @@ serves_next M old now kept next text piece w w1 w2 h free station bytes adds par
       adds = adds_then w w1 w2 old.kept now.kept next.kept h.said part.said h.adds told;
     }
 
--- a write failed before one more part was served
+-- if a write failed before one more part was served, serving the text failed
 fails_next : {S : Type 0} (M : Manner S) (old now : ServerState S) (text more : List ℕ) (w w1 w2 : Stream) → ServesWhole M old now text w w1
     → FailsToWrite w1 w2 (now.kept ++ []) → FailsInParts M old.station old.kept (text ++ more) w w2
 fails_next M old now text more w w1 w2 h fails =
@@ -86,7 +86,7 @@ fails_next M old now text more w w1 w2 h fails =
       fails = rw append-nil at (fails_then w w1 w2 old.kept now.kept h.said [] h.adds fails);
     }
 
--- the rest, which has no line feed, was read
+-- after the rest, which has no line feed, is read, the text is served
 serves_last : {S : Type 0} (M : Manner S) (old now kept : ServerState S) (text piece : List ℕ) (w w1 : Stream)
     → ServesWhole M old now text w w1 → HasNoFeed piece → kept.station ≡ now.station → kept.kept ≡ now.kept
     → kept.part ≡ take most_kept (now.part ++ piece) → ServesWhole M old kept (text ++ piece) w w1
@@ -103,7 +103,7 @@ serves_last M old now kept text piece w w1 h free station lines bytes =
       adds = rw lines h.adds;
     }
 
--- what is kept was written at the end
+-- writing the kept answers does not change what was served
 pub serves_written : {S : Type 0} (M : Manner S) (old now quiet : ServerState S) (text : List ℕ) (w w1 w2 : Stream) → old.kept ≡ []
     → ServesWhole M old now text w w1 → WritesAll w1 w2 now.kept → quiet.station ≡ now.station → quiet.part ≡ now.part
     → quiet.kept ≡ [] → ServesWhole M old quiet text w w2
@@ -120,7 +120,7 @@ serves_written M old now quiet text w w1 w2 silent h wrote station part none_kep
       adds = record { written = h.said; wrote = rw whole at all; whole = rw (none_kept, silent) (append-nil h.said) };
     }
 
--- a write failed in what was kept
+-- if a write failed within the kept answers, serving the text failed
 pub fails_written : {S : Type 0} (M : Manner S) (old now : ServerState S) (text : List ℕ) (w w1 w2 : Stream) → old.kept ≡ []
     → ServesWhole M old now text w w1 → FailsToWrite w1 w2 now.kept → FailsInParts M old.station old.kept text w w2
 fails_written M old now text w w1 w2 silent h fails =
@@ -136,18 +136,18 @@ fails_written M old now text w w1 w2 silent h fails =
       fails = rw h.adds.whole at all;
     }
 
--- the lines at the beginning of a text were served
+-- the whole lines of a first part of a text were served
 pub record ServesFront {S : Type 0} (M : Manner S) (old now : ServerState S) (part more rest : List ℕ) (w w1 : Stream) : Type 0 where
   pub done : List ℕ
   pub split : more ≡ done ++ rest
   pub whole : ServesWhole M old now (part ++ done) w w1
 
--- nothing of a text was served yet
+-- at first, nothing of a text is served
 pub front_none : {S : Type 0} (M : Manner S) (server : ServerState S) (part more : List ℕ) (w : Stream) → HasNoFeed part
     → Keeps server part → ServesFront M server server part more more w w
 front_none M server part more w free keeps = record { done = []; split = refl; whole = serves_none M server part w free keeps }
 
--- one more part of a text was served
+-- after one more part is served, the text up to its end is served
 front_next : {S : Type 0} (M : Manner S) {kept next : ServerState S} (serves : ServesPart M kept next) (old now : ServerState S)
     (part more rest piece after : List ℕ) (w w1 w2 : Stream) → ServesFront M old now part more rest w w1 → BeginsWithPart rest piece after
     → kept.station ≡ now.station → kept.part ≡ take most_kept (now.part ++ piece) → AddsText w1 w2 now.kept kept.kept []
@@ -159,14 +159,14 @@ front_next M {kept} {next} serves old now part more rest piece after w w1 w2 h b
       (serves_next M old now kept next (part ++ h.done) piece w w1 w2 h.whole begins.free station bytes adds serves);
 }
 
--- the rest of a text, which has no line feed, was read
+-- after the rest of a text, which has no line feed, is read, the whole text is served
 front_all : {S : Type 0} (M : Manner S) (old now kept : ServerState S) (part more rest : List ℕ) (w w1 : Stream)
     → ServesFront M old now part more rest w w1 → HasNoFeed rest → kept.station ≡ now.station → kept.kept ≡ now.kept
     → kept.part ≡ take most_kept (now.part ++ rest) → ServesWhole M old kept (part ++ more) w w1
 front_all M old now kept part more rest w w1 h free station lines bytes =
     rw (h.split, ← append_assoc) (serves_last M old now kept (part ++ h.done) rest w w1 h.whole free station lines bytes)
 
--- the same for a server that is now the same as another one
+-- like `front_next`, for a server that is equal to another one
 pub front_next_at : {S : Type 0} (M : Manner S) {kept next : ServerState S} (serves : ServesPart M kept next) (old now at : ServerState S)
     (same : at ≡ now) (part more rest piece after : List ℕ) (w w1 w2 : Stream) → ServesFront M old now part more rest w w1
     → BeginsWithPart rest piece after → kept.station ≡ at.station → kept.part ≡ take most_kept (at.part ++ piece)
@@ -180,14 +180,14 @@ pub front_all_at : {S : Type 0} (M : Manner S) (old now at kept : ServerState S)
 front_all_at M old now at kept same part more rest w w1 h free station lines bytes =
     front_all M old at kept part more rest w w1 (rw (← same) at h) free station lines bytes
 
--- a write failed before one more part of a text was served
+-- if a write failed before one more part was served, serving the text failed
 pub front_fails : {S : Type 0} (M : Manner S) (old now : ServerState S) (part more rest : List ℕ) (w w1 w2 : Stream)
     → ServesFront M old now part more rest w w1 → FailsToWrite w1 w2 (now.kept ++ [])
     → FailsInParts M old.station old.kept (part ++ more) w w2
 front_fails M old now part more rest w w1 w2 h fails =
     rw (h.split, ← append_assoc) (fails_next M old now (part ++ h.done) rest w w1 w2 h.whole fails)
 
--- a call that returns an error after a failed write meets `ServesText`
+-- if a call returns an error after a failed write, `ServesText` is true of it
 pub text_fails : {S T : Type 0} (M : Manner S) (old new : ServerState S) (text : List ℕ) (w w1 : Stream) (failed : Failed)
     (result : Result T Failed) → result ≡ Err failed → FailsInParts M old.station old.kept text w w1
     → ServesText M old new text w w1 result
@@ -197,7 +197,7 @@ text_fails M old new text w w1 failed result is fails = rw is fails
 pub take_few : (most : ℕ) (xs ys : List ℕ) → ys ≡ take most xs → length ys ≤ most
 take_few most xs ys is = grind (arith, common_steps)
 
--- equal servers have equal parts
+-- equal servers have equal stations
 pub station_of : {S : Type 0} {a b : ServerState S} → a ≡ b → a.station ≡ b.station
 station_of {S} {a} {b} same = ap (λ (s : ServerState S). s.station) same
 

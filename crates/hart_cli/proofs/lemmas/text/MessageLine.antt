@@ -1,4 +1,4 @@
--- A frame has one line.
+-- The message of a frame has only one line.
 use Rattle.std.proofs.Common.{◌≡◌, ℕ, List}
 use Rattle.hart_frame.specs.wire.FrameParts.{FrameParts}
 use Rattle.hart_frame.proofs.lemmas.Laws.{bodies_are_unambiguous-one_body}

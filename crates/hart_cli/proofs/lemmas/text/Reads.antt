@@ -1,125 +1,53 @@
 -- An input reads in one way, whichever way to read texts with these laws is used.
-use Rattle.std.proofs.Common.{◌≡◌, ◌≢◌, ◌≤◌, ◌+◌, ◌∙◌, ℕ, List, [], ◌∷◌, ◌++◌, length, Option, Some, refl, sym, ap, arith}
-use Rattle.std.proofs.Common.{append-nil, append_assoc, length-append}
-use Rattle.std.proofs.lemmas.Grind.{common_steps}
+use Rattle.std.proofs.Common.{◌≡◌, ℕ, List, [], ◌∷◌, ◌++◌, Option, Some, refl, ap}
+use Rattle.std.proofs.Common.{append_assoc}
+use Rattle.hart_text.specs.Items.{closed}
+use Rattle.hart_text.proofs.lemmas.Reads.{Laws, not_decided, not_read, now_bad, one_bad, one_way}
 use Rattle.hart_cli.specs.declared.fault.CliFault.{CliFault}
 use Rattle.hart_cli.specs.declared.fault.CliFault.TheVariants.{BadHex}
 use Rattle.hart_cli.specs.declared.input.InputEnd.{InputEnd}
 use Rattle.hart_cli.specs.input.Input.{CameTo, Ending, Left}
 use Rattle.hart_cli.specs.text.InputChars.{HasHeardBy, all, bad_hex, decided_bad_hex, failure, limit}
-use Rattle.hart_cli.specs.text.Items.{HasBadHexBy, MayBegin, NoPieceBegins, Opens, ReadsSoFarBy, Separator, closed}
-
--- the laws of a way to read texts: more text does not change what was read; a reading goes on from its rest, and in one way; a
--- reading stops only where no piece begins, and reads nothing there
-pub record Laws {Heard : Type 0} (Reads : List ℕ → List Heard → List ℕ → Type 0) (Stops : List ℕ → Type 0) : Type 0 where
-  pub more : (text : List ℕ) (heard : List Heard) (rest more : List ℕ) → Reads text heard rest → Reads (text ++ more) heard (rest ++ more)
-  pub on : (text : List ℕ) (xs : List Heard) (rest : List ℕ) (ys : List Heard) (last : List ℕ) → Reads text xs rest → Reads rest ys last
-      → Reads text (xs ++ ys) last
-  pub goes_on : (text : List ℕ) (xs : List Heard) (rest : List ℕ) (ys : List Heard) (last : List ℕ) → Reads text xs rest
-      → Reads text ys last → Stops last → (between : List Heard) × Reads rest between last × (ys ≡ xs ++ between)
-  pub stays : (rest : List ℕ) (heard : List Heard) (last : List ℕ) → Reads rest heard last → Stops rest → (heard ≡ []) × (rest ≡ last)
-  pub shorter : (text : List ℕ) (heard : List Heard) (rest : List ℕ) → Reads text heard rest → length rest ≤ length text
-  pub still : (text : List ℕ) (heard : List Heard) (rest : List ℕ) → Reads text heard rest → length rest ≡ length text → rest ≡ text
-  pub none : Stops []
-  pub pieces : (text : List ℕ) → Stops text → NoPieceBegins text
-  pub decided : (rest more : List ℕ) → Stops rest → (Opens Stops rest → ⊥) → Stops (rest ++ more)
-
--- a piece may begin at the end of a text
-pub may_begin-nil : MayBegin []
-may_begin-nil = record { more = 32 ∷ []; piece = Separator 32; tail = []; begins = grind (arith, common_steps) }
 
 module _ {Heard : Type 0} (Reads : List ℕ → List Heard → List ℕ → Type 0) (Stops : List ℕ → Type 0) (laws : Laws Reads Stops) where
-  -- where a piece may begin, a text is open
-  pub may_open : (text : List ℕ) → MayBegin text → Opens Stops text
-  may_open text may = record {
-    more = may.more;
-    goes_on = λ stops. laws.pieces (text ++ may.more) stops may.piece may.tail may.begins;
-  }
-
-  -- a rest that is not open is not empty, whatever follows it
-  some_rest : (rest more : List ℕ) → (Opens Stops rest → ⊥) → rest ++ more ≢ []
-  some_rest [] more none = absurd (none (may_open [] may_begin-nil))
-  some_rest (byte ∷ rest) more none = λ is. absurd cc
-
-  -- a text reads in one way up to where it stops
-  pub one_way : (text : List ℕ) (xs : List Heard) (rest : List ℕ) (ys : List Heard) (last : List ℕ) → Reads text xs rest
-      → Reads text ys last → Stops rest → Stops last → (xs ≡ ys) × (rest ≡ last)
-  one_way text xs rest ys last h k n m =
-      let (between, reads, split) = laws.goes_on text xs rest ys last h k m in
-      let stay = laws.stays rest between last reads n in
-      let same : xs ++ between ≡ xs = rw (stay.0, append-nil) refl in
-      (sym (split ∙ same), stay.1)
-
-  -- the bad hex of a text is at one place, after one list of things heard
-  pub one_bad : (text : List ℕ) (xs ys : List Heard) (p q : ℕ) → HasBadHexBy Reads Stops text xs p → HasBadHexBy Reads Stops text ys q
-      → (xs ≡ ys) × (p ≡ q)
-  one_bad text xs ys p q h k =
-      let same = one_way text xs h.rest ys k.rest h.reads k.reads h.no_piece k.no_piece in
-      (same.0, omega (arith, h.begins, k.begins, ap length same.1))
-
-  -- a text with bad hex does not read to its end
-  pub not_read : (text : List ℕ) (xs ys : List Heard) (p : ℕ) → Reads text xs [] → HasBadHexBy Reads Stops text ys p → ⊥
-  not_read text xs ys p h k =
-      let same = one_way text xs [] ys k.rest h k.reads laws.none k.no_piece in
-      k.more (sym same.1)
-
-  -- a text that has bad hex whatever follows has it if nothing follows
-  pub now_bad : (text : List ℕ) (heard : List Heard) (place : ℕ) → ((more : List ℕ) → HasBadHexBy Reads Stops (text ++ more) heard place)
-      → HasBadHexBy Reads Stops text heard place
-  now_bad text heard place h = rw append-nil at (h [])
-
-  -- a text whose rest is open has no decided bad hex
-  not_decided : (text : List ℕ) (xs ys : List Heard) (place : ℕ) → ReadsSoFarBy Reads Stops text xs
-      → ((more : List ℕ) → HasBadHexBy Reads Stops (text ++ more) ys place) → ⊥
-  not_decided text xs ys place h k =
-      let now = now_bad text ys place k in
-      let same = one_way text xs h.rest ys now.rest h.reads now.reads h.no_piece now.no_piece in
-      let more = h.open_end.more in
-      let later = k more in
-      let first = laws.more text xs h.rest more h.reads in
-      let (between, reads, split) = laws.goes_on (text ++ more) xs (h.rest ++ more) ys later.rest first later.reads later.no_piece in
-      let long : length later.rest ≡ length (h.rest ++ more) =
-      omega (arith, now.begins, later.begins, length-append text more, length-append h.rest more, ap length same.1) in
-      let still = laws.still (h.rest ++ more) between later.rest reads long in
-      h.open_end.goes_on (rw still at later.no_piece)
-
   -- two hearings of the same input agree: they heard the same, and have the same fault or none
   pub one_hearing : (text : List ℕ) (ending : Ending) (xs ys : List Heard) (f g : Option CliFault)
       → HasHeardBy Reads Stops text ending xs f → HasHeardBy Reads Stops text ending ys g → (xs ≡ ys) × (f ≡ g)
-  one_hearing text _ _ _ _ _ (all xs h) (bad_hex ys q k) = absurd (not_read (closed text) xs ys q h k)
-  one_hearing text _ _ _ _ _ (all xs h) (all ys k) = ((one_way (closed text) xs [] ys [] h k laws.none laws.none).0, refl)
-  one_hearing text _ _ _ _ _ (bad_hex xs p h) (all ys k) = absurd (not_read (closed text) ys xs p k h)
+  one_hearing text _ _ _ _ _ (all xs h) (bad_hex ys q k) = absurd (not_read Reads Stops laws (closed text) xs ys q h k)
+  one_hearing text _ _ _ _ _ (all xs h) (all ys k) = ((one_way Reads Stops laws (closed text) xs [] ys [] h k laws.none laws.none).0, refl)
+  one_hearing text _ _ _ _ _ (bad_hex xs p h) (all ys k) = absurd (not_read Reads Stops laws (closed text) ys xs p k h)
   one_hearing text _ _ _ _ _ (bad_hex xs p h) (bad_hex ys q k) =
-      let same = one_bad (closed text) xs ys p q h k in (same.0, ap (λ n. Some (BadHex n)) same.1)
+      let same = one_bad Reads Stops laws (closed text) xs ys p q h k in (same.0, ap (λ n. Some (BadHex n)) same.1)
   one_hearing text _ _ _ _ _ (decided_bad_hex xs p h) (decided_bad_hex ys q k) =
-      let same = one_bad text xs ys p q (now_bad text xs p h) (now_bad text ys q k) in (same.0, ap (λ n. Some (BadHex n)) same.1)
+      let same = one_bad Reads Stops laws text xs ys p q (now_bad Reads Stops laws text xs p h) (now_bad Reads Stops laws text ys q k) in
+      (same.0, ap (λ n. Some (BadHex n)) same.1)
   one_hearing text _ _ _ _ _ (failure xs h) (failure ys k) =
-      ((one_way text xs h.rest ys k.rest h.reads k.reads h.no_piece k.no_piece).0, refl)
+      ((one_way Reads Stops laws text xs h.rest ys k.rest h.reads k.reads h.no_piece k.no_piece).0, refl)
   one_hearing text _ _ _ _ _ (limit xs h) (limit ys k) =
-      ((one_way text xs h.rest ys k.rest h.reads k.reads h.no_piece k.no_piece).0, refl)
+      ((one_way Reads Stops laws text xs h.rest ys k.rest h.reads k.reads h.no_piece k.no_piece).0, refl)
 
-  -- if an input that came to an end is also heard as one that was left, what is heard and the fault are the same
+  -- if an input is heard to its end, and also heard and left before its end, both give the same things and the same fault
   one_heard : (text : List ℕ) (end : InputEnd) (xs ys : List Heard) (f g : Option CliFault)
       → HasHeardBy Reads Stops text (CameTo end) xs f → HasHeardBy Reads Stops text Left ys g → (xs ≡ ys) × (f ≡ g)
-  one_heard text _ _ _ _ _ (all xs h) (decided_bad_hex ys q k) = absurd (not_read (closed text) xs ys q h (k (32 ∷ [])))
+  one_heard text _ _ _ _ _ (all xs h) (decided_bad_hex ys q k) = absurd (not_read Reads Stops laws (closed text) xs ys q h (k (32 ∷ [])))
   one_heard text _ _ _ _ _ (bad_hex xs p h) (decided_bad_hex ys q k) =
-      let same = one_bad (closed text) xs ys p q h (k (32 ∷ [])) in (same.0, ap (λ n. Some (BadHex n)) same.1)
-  one_heard text _ _ _ _ _ (failure xs h) (decided_bad_hex ys q k) = absurd (not_decided text xs ys q h k)
-  one_heard text _ _ _ _ _ (limit xs h) (decided_bad_hex ys q k) = absurd (not_decided text xs ys q h k)
+      let same = one_bad Reads Stops laws (closed text) xs ys p q h (k (32 ∷ [])) in (same.0, ap (λ n. Some (BadHex n)) same.1)
+  one_heard text _ _ _ _ _ (failure xs h) (decided_bad_hex ys q k) = absurd (not_decided Reads Stops laws text xs ys q h k)
+  one_heard text _ _ _ _ _ (limit xs h) (decided_bad_hex ys q k) = absurd (not_decided Reads Stops laws text xs ys q h k)
 
-  -- if any input is also heard as one that was left, what is heard and the fault are the same
+  -- if an input is heard, and also heard and left before its end, both give the same things and the same fault
   pub one_left : (text : List ℕ) (ending : Ending) (xs ys : List Heard) (f g : Option CliFault)
       → HasHeardBy Reads Stops text ending xs f → HasHeardBy Reads Stops text Left ys g → (xs ≡ ys) × (f ≡ g)
   one_left text Left xs ys f g h k = one_hearing text Left xs ys f g h k
   one_left text (CameTo end) xs ys f g h k = one_heard text end xs ys f g h k
 
-  -- decided bad hex stays, whatever follows
+  -- bad hex that is decided stays, whatever follows
   pub left_more : (input more : List ℕ) (heard : List Heard) (fault : Option CliFault) → HasHeardBy Reads Stops input Left heard fault
       → HasHeardBy Reads Stops (input ++ more) Left heard fault
   left_more input more _ _ (decided_bad_hex heard place k) =
       decided_bad_hex heard place (λ later. rw append_assoc (k (more ++ later)))
 
-  -- what an input reads as comes first in what is heard, whatever follows
+  -- what is heard begins with what the input reads as, whatever follows the input
   pub grows : (input more : List ℕ) (ending : Ending) (xs ys : List Heard) (fault : Option CliFault) (rest : List ℕ)
       → Reads input xs rest → HasHeardBy Reads Stops (input ++ more) ending ys fault → (between : List Heard) × (ys ≡ xs ++ between)
   grows input more _ xs _ _ rest reads (all ys h) =
@@ -129,21 +57,9 @@ module _ {Heard : Type 0} (Reads : List ℕ → List Heard → List ℕ → Type
       let first = laws.more _ xs _ (32 ∷ []) (laws.more input xs rest more reads) in
       let on = laws.goes_on (closed (input ++ more)) xs _ ys h.rest first h.reads h.no_piece in (on.0, on.2)
   grows input more _ xs _ _ rest reads (decided_bad_hex ys place h) =
-      let now = now_bad (input ++ more) ys place h in
+      let now = now_bad Reads Stops laws (input ++ more) ys place h in
       let on = laws.goes_on (input ++ more) xs _ ys now.rest (laws.more input xs rest more reads) now.reads now.no_piece in (on.0, on.2)
   grows input more _ xs _ _ rest reads (failure ys h) =
       let on = laws.goes_on (input ++ more) xs _ ys h.rest (laws.more input xs rest more reads) h.reads h.no_piece in (on.0, on.2)
   grows input more _ xs _ _ rest reads (limit ys h) =
       let on = laws.goes_on (input ++ more) xs _ ys h.rest (laws.more input xs rest more reads) h.reads h.no_piece in (on.0, on.2)
-
-  -- bad hex is decided if the rest is not open
-  pub decided_rest : (text : List ℕ) (heard : List Heard) (rest : List ℕ) (place : ℕ) → Reads text heard rest
-      → place + length rest ≡ length text → Stops rest → (Opens Stops rest → ⊥)
-      → (more : List ℕ) → HasBadHexBy Reads Stops (text ++ more) heard place
-  decided_rest text heard rest place reads placed stops none more = record {
-    rest = rest ++ more;
-    reads = laws.more text heard rest more reads;
-    begins = omega (arith, placed, length-append text more, length-append rest more);
-    more = some_rest rest more none;
-    no_piece = laws.decided rest more stops none;
-  }

@@ -1,26 +1,24 @@
-//! What is heard and still undecided, and lines of the frames that were found in it.
+//! Characters that were heard and may still begin a frame, and lines of the frames that were found.
 ghost use Rattle.std.specs.Prelude.{◌≡◌, ◌≢◌, ◌+◌, ◌*◌, ◌<◌, ◌≤◌, ◌^◌, ◌∷◌, [], ℕ, List, drop, length, false, true};
 ghost use Rattle.std.specs.Option.{option_to_list};
 ghost use Rattle.hart_frame.specs.heard.Character.{Character, faultless};
+ghost use Rattle.hart_text.specs.Items.{NoPieceBegins};
 ghost use Rattle.hart_cli.specs.dump.FrameLines.{AddsDecided, AddsRest, HasRoomFor, Hears, HearsText, IsWaiting};
 ghost use Rattle.hart_cli.specs.input.Decoding.{most_ahead};
 ghost use Rattle.hart_cli.specs.stream.Stream.{Writes};
-ghost use Rattle.hart_cli.specs.text.Items.{NoPieceBegins};
 
 use crate::calls::dump::text::push_frame_line;
-use crate::held;
-use crate::held::Held;
 use crate::output::write_all;
 use crate::stream::{Failed, Sink};
-use crate::text::chunk::{Chunk, read_chunk};
-use crate::text::items::next_piece;
 use crate::text::pairs::Pairs;
 use hart_frame::{Char, next_in_bytes};
-use hart_line::Digits;
+use hart_listen::held;
+use hart_listen::held::Held;
+use hart_text::{Chunk, Digits, next_piece, read_chunk};
 use hart_values::ByteList;
 
-/// The greatest number of bytes of kept lines: 12 for each character of a frame. At most 268 characters are held. At most 16,389 bytes
-/// are read ahead, and every two of them make at most one character.
+/// The greatest number of bytes of kept lines: 12 for each character of a frame. The characters are at most 268 held ones, and one for
+/// every two of at most 16,389 bytes read ahead.
 const TEXT_LINES_LEN: usize = 101_550;
 
 /// Lines that are not yet written.
@@ -54,8 +52,8 @@ impl FrameLines {
         }
     }
 
-    /// Hears the leading items of a text, and keeps a line for each frame that they decide. Returns the rest of the text, which no
-    /// piece begins. The chunk is room to work in.
+    /// Hears the items at the start of a text, and keeps a line for each frame that they decide. Returns the rest of the text, which begins
+    /// with neither an item nor a separator. `chunk` is a work buffer.
     pub fn hear_text<'a>(&mut self, digits: &Digits, chunk: &mut Chunk, text: &'a [u8]) -> &'a [u8]
         requires waiting { IsWaiting self.old.held }
         requires none_kept { self.old.lines ≡ [] }
@@ -80,7 +78,7 @@ impl FrameLines {
         }
     }
 
-    /// Hears bytes without faults. If no bytes are held, the new bytes are searched in place.
+    /// Hears bytes without faults. If no bytes are held, the new bytes are searched without a copy.
     fn hear_bytes(&mut self, bytes: &[u8])
         requires waiting { IsWaiting self.old.held }
         requires few { length bytes.now ≤ 8192 }
@@ -96,7 +94,7 @@ impl FrameLines {
         }
     }
 
-    /// Hears bytes without faults while no bytes are held. Of the new bytes, holds only those that are undecided.
+    /// Hears bytes without faults while no bytes are held, and then holds the bytes that are still undecided.
     fn hear_in_place(&mut self, bytes: &[u8])
         requires empty { self.old.held ≡ [] }
         requires room { HasRoomFor (length bytes.now) self.old }
@@ -109,7 +107,7 @@ impl FrameLines {
         self.first += used as u64;
     }
 
-    /// Hears bytes without faults together with those that are held.
+    /// Hears bytes without faults together with the held bytes.
     fn hear_after_held(&mut self, bytes: &[u8])
         requires waiting { IsWaiting self.old.held }
         requires few { length bytes.now ≤ 8192 }
@@ -124,7 +122,7 @@ impl FrameLines {
         self.let_go(used);
     }
 
-    /// Hears the character of a piece. A separator has no character, and changes nothing.
+    /// Hears the character of an item or a separator. A separator has no character, and changes nothing.
     fn hear_char(&mut self, char: Option<Char>)
         requires waiting { IsWaiting self.old.held }
         requires room { HasRoomFor (length (option_to_list char)) self.old }
@@ -139,7 +137,7 @@ impl FrameLines {
         }
     }
 
-    /// Hears a character with faults, which ends all that is held.
+    /// Hears a character with faults. No frame can go on beyond this character, so no character is held afterwards.
     fn hear_fault(&mut self)
         requires room { HasRoomFor 0 self.old }
         requires places { self.old.first + length self.old.held + 1 < 2 ^ 64 }
@@ -152,7 +150,7 @@ impl FrameLines {
         self.first += used as u64 + 1;
     }
 
-    /// Writes the line of each frame in the held characters, since no character comes after them.
+    /// Writes the line of each frame in the held characters. No character comes after them.
     ///
     /// # Errors
     ///
@@ -182,7 +180,7 @@ impl FrameLines {
 }
 
 /// Adds a line for each decided frame in held bytes. If `ended` is true, nothing comes after the bytes. The first byte has the place
-/// `first` in all that was heard. Returns how many bytes are used by then.
+/// `first` in all that was heard. Returns how many of the first bytes can be dropped.
 fn push_decided(lines: &mut TextLines, pairs: &Pairs, first: u64, held: &[u8], ended: bool) -> usize
     requires room { length lines.old + 12 * length held.now ≤ 101550 }
     requires places { first + length held.now < 2 ^ 64 }

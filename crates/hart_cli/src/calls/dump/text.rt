@@ -12,7 +12,7 @@ use hart_frame::{FoundView, FrameKind};
 use hart_values::{Address, ByteList, MasterId};
 use itoa::Buffer;
 
-/// Adds the line of a frame: its two places, counted from `first` on, and its parts, separated by single spaces, and a line feed.
+/// Adds the line of a frame: its start and stop, counted from `first` on, its parts, and a line feed. Single spaces separate the words.
 pub fn push_frame_line<const N: usize>(
     lines: &mut ByteList<N>,
     pairs: &Pairs,
@@ -46,7 +46,7 @@ fn push_places<const N: usize>(lines: &mut ByteList<N>, start: u64, stop: u64)
     push_word(lines, Buffer::new().format(stop));
 }
 
-/// Adds the words of a kind of frame, of a master and of a burst bit, each with a space after it.
+/// Adds three words, each with a space after it: the kind of frame, the master, and the burst bit.
 fn push_head<const N: usize>(
     lines: &mut ByteList<N>,
     kind: FrameKind,

@@ -27,9 +27,9 @@ pub enum Ask {
 /// The first word of a line that asks something.
 #[derive(Clone, Copy)]
 pub enum Verb {
-    /// `submit`: a request, its data in hex.
+    /// `submit`: a request with its data in hex.
     Submit,
-    /// `ask`: a request, its data by the names of fields.
+    /// `ask`: a request with its data as named fields.
     Ask,
     /// `send`: the message that is due.
     Send,
@@ -37,15 +37,15 @@ pub enum Verb {
     Tick,
 }
 
-/// The number of preamble bytes that the words of a request have. No message is made of the words, so it does not matter.
+/// The number of preamble bytes in the words of a request. It has no effect, because no message is made from these words.
 const PREAMBLES: u8 = 5;
 
 /// Returns what a line asks.
 ///
 /// # Errors
 ///
-/// [`CliFault::BadWord`] or [`CliFault::BadField`] of the first bad word; the first word of the line has the number 1. A word that is
-/// missing is read as an empty one.
+/// [`CliFault::BadWord`] or [`CliFault::BadField`] of the first bad word. The first word of the line has the number 1. A missing word is
+/// read as an empty word.
 pub fn read_ask(who: MasterId, line: &[u8]) -> Result<Ask, CliFault>
     ensures { ReadsAsk who line.now result }
 {
@@ -55,7 +55,7 @@ pub fn read_ask(who: MasterId, line: &[u8]) -> Result<Ask, CliFault>
     }
 }
 
-/// Returns what words ask.
+/// Returns what the words of a line ask, or the fault of the first bad word.
 fn read_asking_words(who: MasterId, words: &[&str]) -> Result<Ask, CliFault>
     ensures { ReadsWords who (map (λ word. word.now) words.now) result }
 {
@@ -69,7 +69,7 @@ fn read_asking_words(who: MasterId, words: &[&str]) -> Result<Ask, CliFault>
     ask_by(who, words, verb)
 }
 
-/// Returns what words with this first word ask.
+/// Returns what a line with this first word asks, or the fault of the first bad word.
 fn ask_by(who: MasterId, words: &[&str], verb: Verb) -> Result<Ask, CliFault>
     ensures { AsksBy who (map (λ word. word.now) words.now) verb result }
 {
@@ -81,7 +81,7 @@ fn ask_by(who: MasterId, words: &[&str], verb: Verb) -> Result<Ask, CliFault>
     }
 }
 
-/// Returns what a line asks whose words were read as a request.
+/// Returns the [`Ask`] for a request that was read from the words of a line, or the fault of these words.
 fn submitted(read: Result<Frame, CliFault>) -> Result<Ask, CliFault>
     ensures { result ≡ submitted read }
 {
@@ -91,7 +91,7 @@ fn submitted(read: Result<Frame, CliFault>) -> Result<Ask, CliFault>
     }
 }
 
-/// Returns what a line asks whose second word was read as a number of character times.
+/// Returns the [`Ask`] for a number of character times. `None` means that the second word of the line is bad.
 fn ticked(count: Option<u8>) -> Result<Ask, CliFault>
     ensures { result ≡ ticked count }
 {
@@ -101,7 +101,7 @@ fn ticked(count: Option<u8>) -> Result<Ask, CliFault>
     }
 }
 
-/// Returns the word at a place, counted from 0, or the empty word if there is none.
+/// Returns the word at a place, counted from 0, or the empty word if there is no such word.
 fn word_at<'a>(words: &[&'a str], place: usize) -> &'a str
     ensures { result.now ≡ word_at (map (λ word. word.now) words.now) place }
 {
@@ -111,7 +111,7 @@ fn word_at<'a>(words: &[&'a str], place: usize) -> &'a str
     }
 }
 
-/// Reads the first word of a line. Returns `None` for any other word.
+/// Returns what the first word of a line asks, or `None` if this word is unknown.
 fn verb_of(word: &str) -> Option<Verb>
     ensures { result ≡ named_in verbs word.now }
 {
@@ -124,7 +124,7 @@ fn verb_of(word: &str) -> Option<Verb>
     }
 }
 
-/// Returns the most words that a line with this first word can have.
+/// Returns the greatest number of words in a line with this first word.
 fn most_words(verb: Verb) -> u8
     ensures { result ≡ most_words verb }
 {
@@ -136,7 +136,7 @@ fn most_words(verb: Verb) -> u8
     }
 }
 
-/// Returns the words of `submit` as those of `hart encode`.
+/// Returns the words of `submit` as the words of `hart encode`.
 fn message_words<'a>(who: MasterId, words: &[&'a str]) -> EncodeWords<'a>
     ensures { result ≡ message_words who (map (λ word. word.now) words.now) }
 {
@@ -149,7 +149,7 @@ fn message_words<'a>(who: MasterId, words: &[&'a str]) -> EncodeWords<'a>
     }
 }
 
-/// Returns the words of `ask` as those of `hart request`.
+/// Returns the words of `ask` as the words of `hart request`.
 fn request_words<'w, 'a: 'w>(who: MasterId, words: &'w [&'a str]) -> RequestWords<'w, 'a>
     ensures { result ≡ request_words who (map (λ word. word.now) words.now) }
 {
@@ -162,7 +162,7 @@ fn request_words<'w, 'a: 'w>(who: MasterId, words: &'w [&'a str]) -> RequestWord
     }
 }
 
-/// Returns the word of a master.
+/// Returns the word of a master: `P` for the primary master, and `S` for the secondary master.
 fn who_word(who: MasterId) -> &'static str
     ensures { result.now ≡ who_word who }
 {

@@ -21,14 +21,15 @@ use crate::text::message_line::message_line;
 use crate::text::pairs::Pairs;
 use crate::text::words::{push_hex_word, push_text, push_word};
 use hart_frame::{Char, Frame, LoneFrame, lone_frame};
-use hart_line::{Digits, Filling, NoRoom};
+use hart_line::{Filling, NoRoom};
 use hart_master::{FrameEvent, FrameHand, FrameMaster, MasterFault};
+use hart_text::Digits;
 use hart_values::MasterId;
 use itoa::Buffer;
 use std::alloc::Global;
 use std::marker::Model;
 
-/// The most characters that a line can have: each is written with two bytes of the line or more.
+/// The greatest number of characters in a line. Each character takes at least two bytes of the line.
 const CHARS_ROOM: usize = INPUT_LIMIT / 2;
 
 /// The word before the items of a delivery.
@@ -42,7 +43,7 @@ pub struct MasterLines {
     master: FrameMaster,
     /// The characters of a line.
     chars: Filling<Char>,
-    /// The table of what hex digits mean, for reading lines.
+    /// The table of the values of hex digits, for reading lines.
     digits: Digits,
     /// The table of hex digits, for writing answers.
     pairs: Pairs,
@@ -87,7 +88,7 @@ impl MasterLines {
         })
     }
 
-    /// Hears the items of a line, which are passed with one space after them, and returns the answer.
+    /// Hears the items of a line, and returns the answer. `items` has one more space after the items.
     fn hear_items(&mut self, items: &[u8]) -> SaidLine
         requires short { length items.now ≤ 2 * chars_room + 2 }
         ensures { HearsItems self.old items.now self.new result }
@@ -138,7 +139,8 @@ impl Station for MasterLines {
     ghost too_long = { λ station. too_long };
 }
 
-/// Returns the items after `heard` in a line that is passed with one space after it, with that space. Returns `None` if it is no such line.
+/// Returns the items after `heard` in a line. Returns `None` if the line does not say what was heard. `text` is the line and one more
+/// space, and the returned items end with this space.
 fn items_of(text: &[u8]) -> Option<&[u8]>
     ensures within { IfSome result (λ items. length items.now ≤ length text.now) }
     ensures items { (line : List ℕ) → text.now ≡ line ++ 32 ∷ [] → MatchOption result
@@ -206,7 +208,7 @@ fn fault_words(fault: MasterFault) -> &'static str
     }
 }
 
-/// Returns the line of nothing.
+/// Returns the line `-`, which says that nothing happened.
 fn dash_line() -> SaidLine
     ensures { result ≡ dash_line }
 {
@@ -215,7 +217,7 @@ fn dash_line() -> SaidLine
     said
 }
 
-/// Returns the line of a reply.
+/// Returns the line for a reply to a request that was sent `sendings` times.
 fn answered_line(pairs: &Pairs, sendings: u8, payload: &[u8]) -> SaidLine
     requires { length payload.now ≤ 255 }
     ensures { result ≡ answered_line sendings payload.now }
@@ -228,7 +230,7 @@ fn answered_line(pairs: &Pairs, sendings: u8, payload: &[u8]) -> SaidLine
     said
 }
 
-/// Returns the line of the message that is due, or of nothing.
+/// Returns the line for the message that is due, or `-` if no message is due.
 fn due_line(due: Option<&Frame>, preambles: u8) -> SaidLine
     requires { IsPreambleCount preambles }
     ensures { IsDueLine preambles (option_map (λ frame. frame.now) due.entry) result }
@@ -242,7 +244,7 @@ fn due_line(due: Option<&Frame>, preambles: u8) -> SaidLine
     said
 }
 
-/// Returns the answer when time has passed.
+/// Returns the answer after time has passed.
 fn ticked_line(event: FrameEvent) -> SaidLine
     ensures { result ≡ ticked_line event }
 {

@@ -15,7 +15,7 @@ pub type LineWords<'a> = ArrayVec<&'a str, MOST_WORDS>;
 ///
 /// # Errors
 ///
-/// The number of the first word, counted from 1, that is no valid UTF-8 or is one too many.
+/// The number, counted from 1, of the first bad word: one that is not valid UTF-8, or the 65th.
 pub fn read_words(line: &[u8]) -> Result<LineWords<'_>, u8>
     ensures { MatchResult result
         (λ words. (map (λ word. word.now) words.items ≡ words_of line.now) × AreReadable (words_of line.now))
@@ -32,11 +32,11 @@ pub fn read_words(line: &[u8]) -> Result<LineWords<'_>, u8>
     Ok(words)
 }
 
-/// Adds a part to the words before it, unless it is empty.
+/// Appends a part of a line to the words before it, unless the part is empty.
 ///
 /// # Errors
 ///
-/// The number of the word, if it is no valid UTF-8 or is one too many.
+/// The number that the word would have, if it is not valid UTF-8 or would be the 65th.
 fn push_part<'a>(words: &mut LineWords<'a>, part: &'a [u8]) -> Result<(), u8>
     ensures { MatchResult result
         (λ _. AddsPart (map (λ word. word.now) words.old.items) part.now (map (λ word. word.now) words.new.items))
@@ -56,7 +56,7 @@ fn push_part<'a>(words: &mut LineWords<'a>, part: &'a [u8]) -> Result<(), u8>
     Ok(())
 }
 
-/// Returns the byte between the words of a line.
+/// Returns the byte that separates the words of a line.
 fn separator_of(line: &[u8]) -> u8
     ensures { result ≡ separator_of line.now }
 {
@@ -75,7 +75,7 @@ fn has_tab(line: &[u8]) -> bool
     false
 }
 
-/// Returns the part before the first separator, and the text after it, if there is a separator.
+/// Returns the part before the first separator, and the text after that separator. Without a separator, returns the whole text and `None`.
 fn first_part(text: &[u8], separator: u8) -> (&[u8], Option<&[u8]>)
     ensures { IsCutAt separator text.now result.0.now (option_map (λ rest. rest.now) result.1) }
 {

@@ -58,7 +58,7 @@ pub(super) fn flag<'a>(alloc: Global, name: &'a str, help: &'a str) -> Arg<'a>
         .help(help)
 }
 
-/// Returns the option for how many preamble bytes a message begins with. Without the option, this word counts.
+/// Returns the option that says how many preamble bytes a message begins with. If the option is absent, `default` is used.
 pub(super) fn preambles_option<'a>(alloc: Global, default: &'a str) -> Arg<'a>
     ensures rule { rule_of result ≡ preambles_rule default.entry.now }
     ensures local { result.global ≡ false }
@@ -68,7 +68,7 @@ pub(super) fn preambles_option<'a>(alloc: Global, default: &'a str) -> Arg<'a>
         .help(words::PREAMBLES_HELP)
 }
 
-/// Returns the option for which of the two masters it is.
+/// Returns the option that says which of the two masters the program is.
 pub(super) fn who_option<'a>(alloc: Global) -> Arg<'a>
     ensures rule { rule_of result ≡ who_rule }
     ensures local { result.global ≡ false }
@@ -80,7 +80,7 @@ pub(super) fn who_option<'a>(alloc: Global) -> Arg<'a>
         .help(words::MASTER_WHO_HELP)
 }
 
-/// Returns the option for how often a request is sent again.
+/// Returns the option that says how often a request is sent again.
 pub(super) fn retries_option<'a>(alloc: Global) -> Arg<'a>
     ensures rule { rule_of result ≡ number_rule (codes "retries") 0 15 (codes "3" ∷ []) }
     ensures local { result.global ≡ false }
@@ -90,7 +90,7 @@ pub(super) fn retries_option<'a>(alloc: Global) -> Arg<'a>
         .help(words::RETRIES_HELP)
 }
 
-/// Returns the option for how long a reply is awaited.
+/// Returns the option that says how long a reply is awaited.
 pub(super) fn limit_option<'a>(alloc: Global) -> Arg<'a>
     ensures rule { rule_of result ≡ number_rule (codes "limit") 1 255 [] }
     ensures local { result.global ≡ false }

@@ -18,6 +18,7 @@ use super::arguments::{
 use super::help;
 use super::help::{HelpPage, stations, words};
 use crate::calls::encode::EncodeWords;
+use crate::calls::explain::printer::Style;
 use crate::calls::master::MasterWords;
 use crate::calls::request::RequestWords;
 use crate::image_word::ImageWord;
@@ -36,13 +37,12 @@ pub enum Call<'w, 'a: 'w> {
     /// `hart dump`.
     Dump,
     /// `hart explain`.
-    Explain,
-    /// `hart explain --raw`.
-    ExplainRaw,
-    /// `hart explain --json`.
-    ExplainJson,
-    /// `hart explain --raw --json`.
-    ExplainRawJson,
+    Explain {
+        /// In words, or as JSON with `--json`.
+        style: Style,
+        /// Whether the input is raw, with `--raw`.
+        is_raw: bool,
+    },
     /// `hart serve`.
     Serve(ImageWord<'a>),
     /// `hart master`.
@@ -55,12 +55,12 @@ pub enum Call<'w, 'a: 'w> {
     Request(RequestWords<'w, 'a>),
 }
 
-/// Returns the matches of the words.
+/// Matches the words against the program's commands, and returns the matches of clap.
 ///
 /// # Errors
 ///
-/// The error that clap returns if it finds no matches for the words, or if memory is refused. The text of this error may be clap's help.
-/// No clause says that memory was refused, so a body that refuses more than 64 words would meet this contract.
+/// The error that clap returns if it finds no matches for the words, or if memory is refused. The text of this error may be clap's help. No
+/// clause says when memory is refused, so a body that refuses more than 64 words would meet this contract.
 pub fn matches_of<'a>(alloc: Global, words: &'a [String]) -> Result<ArgMatches<'a>, clap::Error>
     ensures fits { OnOk result (fault_of hart_app (map string_bytes words.now) ≡ []) }
     ensures matches { IfOk result (λ matches. subcommand_rows_of matches ≡ subcommand_of hart_app (map string_bytes words.now)) }
@@ -71,8 +71,8 @@ pub fn matches_of<'a>(alloc: Global, words: &'a [String]) -> Result<ArgMatches<'
 }
 
 /// Returns the call of the subcommand that the words name. Returns `None` if the words name none of the eight subcommands, or if
-/// `encode_words` or `request_words` returns `None`. clap excludes all three cases. No clause says so: the proof would take about 800
-/// lines, and no clause of the program would say more.
+/// `master_words`, `encode_words` or `request_words` returns `None`. clap excludes all these cases. No clause says so, because the proof
+/// would take about 800 lines, and would strengthen no clause of the program.
 pub fn call_of<'w, 'a: 'w>(matches: &'w ArgMatches<'a>) -> Option<Call<'w, 'a>>
     ensures { result ≡ call_of (subcommand_rows_of matches.now) }
 {
@@ -90,18 +90,19 @@ pub fn call_of<'w, 'a: 'w>(matches: &'w ArgMatches<'a>) -> Option<Call<'w, 'a>>
     }
 }
 
-/// Returns the call of `hart explain`, with its flags or without.
+/// Returns the call of `hart explain`, by its flags.
 fn explain_call<'w, 'a: 'w>(given: &'w ArgMatches<'a>) -> Call<'w, 'a>
     ensures { result ≡ explain_call
         (first_of (codes "raw") (rows_of (found_of given.now)))
         (first_of (codes "json") (rows_of (found_of given.now))) }
 {
-    match (is_set(given, "raw"), is_set(given, "json")) {
-        (false, false) => Call::Explain,
-        (true, false) => Call::ExplainRaw,
-        (false, true) => Call::ExplainJson,
-        (true, true) => Call::ExplainRawJson,
-    }
+    let is_raw = is_set(given, "raw");
+    let style = if is_set(given, "json") {
+        Style::Objects
+    } else {
+        Style::Words
+    };
+    Call::Explain { style, is_raw }
 }
 
 /// Returns true if a flag is set.
@@ -120,7 +121,7 @@ fn image_word<'a>(given: &ArgMatches<'a>) -> ImageWord<'a>
     }
 }
 
-/// Returns the first word that was given under a name.
+/// Returns the first word that clap has under this name.
 fn word_of<'a>(given: &ArgMatches<'a>, id: &str) -> Option<&'a str>
     ensures { option_map (λ word. word.now) result ≡ first_of id.now (rows_of (found_of given.now)) }
 {
@@ -160,7 +161,8 @@ fn request_words<'w, 'a: 'w>(given: &'w ArgMatches<'a>) -> Option<RequestWords<'
     })
 }
 
-/// Returns the words of `hart master`. Returns `None` if one of its numbers is missing or out of range. clap excludes these cases.
+/// Returns the words of `hart master`. Returns `None` if one of them is missing, except the limit, or if a number is out of range. clap
+/// excludes these cases.
 fn master_words<'a>(given: &ArgMatches<'a>) -> Option<MasterWords<'a>>
     ensures { result ≡ master_words_of (rows_of (found_of given.now)) }
 {
@@ -172,7 +174,7 @@ fn master_words<'a>(given: &ArgMatches<'a>) -> Option<MasterWords<'a>>
     })
 }
 
-/// Returns the words that were given under a name, or `None` if no words were given.
+/// Returns the words that clap has under this name, or `None` if clap has no words there.
 fn words_of<'w, 'a: 'w>(given: &'w ArgMatches<'a>, id: &str) -> Option<&'w [&'a str]>
     ensures { option_map (λ words. map (λ word. word.now) words.now) result ≡ all_of id.now (rows_of (found_of given.now)) }
 {
@@ -197,7 +199,8 @@ fn number_of(least: u8, most: u8, word: &str) -> Option<u8>
     Some(count)
 }
 
-/// Returns the number of an option that may be absent, or `None` if its word is no number within these bounds.
+/// Returns the number of an option, or `Some(None)` if the option is absent. Returns `None` if the option's word is no number within these
+/// bounds.
 fn optional_number(least: u8, most: u8, word: Option<&str>) -> Option<Option<u8>>
     ensures { result ≡ optional_number least most (option_map (λ word. word.now) word.entry) }
 {

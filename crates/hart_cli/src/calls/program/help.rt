@@ -8,11 +8,11 @@ pub mod words;
 pub(super) struct HelpPage<'a> {
     /// What the command does, in one line.
     pub about: &'a str,
-    /// How it is called.
+    /// The usage line of the command.
     pub usage: &'a str,
-    /// What goes in and what comes out.
+    /// What the command reads and what it writes.
     pub help: &'a str,
-    /// An example of its use, with what it writes.
+    /// An example of the command, with what it writes.
     pub example: &'a str,
 }
 

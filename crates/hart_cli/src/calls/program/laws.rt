@@ -1,23 +1,24 @@
-//! Which calls words make.
+//! Laws about the calls that words make.
 
-ghost use Rattle.std.specs.Prelude.{◌≡◌, ◌∷◌, [], ℕ, List, None, Some, codes};
+ghost use Rattle.std.specs.Prelude.{◌≡◌, ◌∷◌, [], ℕ, List, None, Some, codes, false, true};
 ghost use Rattle.hart_cli.specs.program.CommandLine.{Calls};
 ghost use Rattle.hart_cli.specs.declared.calls.program.command_line.Call.{Call};
-ghost use Rattle.hart_cli.specs.declared.calls.program.command_line.Call.TheVariants.{Answer, Dump, Encode, Explain, ExplainJson};
-ghost use Rattle.hart_cli.specs.declared.calls.program.command_line.Call.TheVariants.{ExplainRaw, ExplainRawJson, Request, Serve, Sim};
+ghost use Rattle.hart_cli.specs.declared.calls.program.command_line.Call.TheVariants.{Answer, Dump, Encode, Explain, Request};
+ghost use Rattle.hart_cli.specs.declared.calls.program.command_line.Call.TheVariants.{Serve, Sim};
+ghost use Rattle.hart_cli.specs.declared.calls.explain.printer.Style.TheVariants.{Objects, Words};
 
-/// If the only word is `answer`, `dump`, `explain`, `serve` or `sim`, it calls that subcommand, without an image. After `answer`, `serve`
-/// or `sim`, `--image 01` gives the image `01`; after `explain`, `--raw` makes the input raw, and `--json` asks for JSON.
-/// `encode P @0 0` has no data and 5 preamble bytes, or 20 if `--preambles 20` follows. `request P @0 0` has no fields, and
-/// `request P @0 6 a=1 b=2` has two.
+/// If the only word is `answer`, `dump`, `explain`, `serve` or `sim`, this word calls that subcommand, without an image. After `answer`,
+/// `serve` or `sim`, `--image 01` gives the image `01`. After `explain`, `--raw` makes the input raw, and `--json` asks for JSON.
+/// `encode P @0 0` has no data and 5 preamble bytes, or 20 if `--preambles 20` follows. `request P @0 6 a=1 b=2` has two fields, and
+/// `request P @0 0` has none.
 pub fn words_are_calls()
     ensures answer { Calls (Answer None) (codes "answer" ∷ []) }
     ensures answer_image { Calls (Answer (Some (codes "01"))) (codes "answer" ∷ codes "--image" ∷ codes "01" ∷ []) }
     ensures dump { Calls Dump (codes "dump" ∷ []) }
-    ensures explain { Calls Explain (codes "explain" ∷ []) }
-    ensures explain_raw { Calls ExplainRaw (codes "explain" ∷ codes "--raw" ∷ []) }
-    ensures explain_json { Calls ExplainJson (codes "explain" ∷ codes "--json" ∷ []) }
-    ensures explain_raw_json { Calls ExplainRawJson (codes "explain" ∷ codes "--raw" ∷ codes "--json" ∷ []) }
+    ensures explain { Calls (Explain Words false) (codes "explain" ∷ []) }
+    ensures explain_raw { Calls (Explain Words true) (codes "explain" ∷ codes "--raw" ∷ []) }
+    ensures explain_json { Calls (Explain Objects false) (codes "explain" ∷ codes "--json" ∷ []) }
+    ensures explain_raw_json { Calls (Explain Objects true) (codes "explain" ∷ codes "--raw" ∷ codes "--json" ∷ []) }
     ensures serve { Calls (Serve None) (codes "serve" ∷ []) }
     ensures serve_image { Calls (Serve (Some (codes "01"))) (codes "serve" ∷ codes "--image" ∷ codes "01" ∷ []) }
     ensures sim { Calls (Sim None) (codes "sim" ∷ []) }

@@ -19,11 +19,12 @@ use crate::text::pairs::Pairs;
 use crate::text::words::push_text;
 use hart_device::{Device, ImageRegisters, bench};
 use hart_frame::{Char, Frame};
-use hart_line::{Digits, Filling, NoRoom};
+use hart_line::{Filling, NoRoom};
+use hart_text::Digits;
 use std::alloc::Global;
 use std::marker::Model;
 
-/// The most characters that a line can have: each is written with two bytes of the line or more.
+/// The greatest number of characters in a line. Each character takes at least two bytes of the line.
 const CHARS_ROOM: usize = INPUT_LIMIT / 2;
 
 /// A device that answers lines.
@@ -32,7 +33,7 @@ pub struct DeviceLines {
     device: Device<ImageRegisters>,
     /// The characters of a line.
     chars: Filling<Char>,
-    /// The table of what hex digits mean, for reading lines.
+    /// The table of the values of hex digits, for reading lines.
     digits: Digits,
     /// The table of hex digits, for writing answers.
     pairs: Pairs,
@@ -86,10 +87,10 @@ impl Station for DeviceLines {
     ghost too_long = { λ station. too_long };
 }
 
-/// What a line of words asks of the device. Such a line is no delivery.
+/// What a line asks of the device, if the line is no delivery.
 #[derive(Clone, Copy)]
 pub enum LineWord {
-    /// The device was without power and is on again.
+    /// The device loses its power and starts again.
     Restart,
     /// The device's write protection is switched on or off.
     Protect(bool),
@@ -99,7 +100,7 @@ pub enum LineWord {
     Counter,
 }
 
-/// Reads a line as one of the words of `LineWord`, or returns `None` if the line is no such word.
+/// Reads a line as a [`LineWord`]. Returns `None` if the line is no such word.
 fn word_of(line: &[u8]) -> Option<LineWord>
     ensures { result ≡ named_in line_words line.now }
 {
@@ -139,7 +140,7 @@ fn obey(device: &mut Device<ImageRegisters>, pairs: &Pairs, word: LineWord) -> S
     said
 }
 
-/// Lets a device hear the characters of a line, which is passed with one space after it, and returns the answer to the line.
+/// Lets a device hear the characters of a line, and returns the answer to the line. `text` is the line and one more space.
 fn hear_text(
     device: &mut Device<ImageRegisters>,
     digits: &Digits,
@@ -169,7 +170,7 @@ fn hear(device: &mut Device<ImageRegisters>, delivery: &[Char]) -> SaidLine
     }
 }
 
-/// Returns the line of a reply's message with this number of preamble bytes.
+/// Returns a reply's message, with this number of preamble bytes, as a line of hex.
 fn reply_line(reply: &Frame, preambles: u8) -> SaidLine
     requires { IsPreambleCount preambles }
     ensures { IsMessageLine reply.now preambles result }
@@ -179,7 +180,7 @@ fn reply_line(reply: &Frame, preambles: u8) -> SaidLine
     said
 }
 
-/// Returns the line of silence.
+/// Returns the line `-`, which says that the device is silent.
 fn silence() -> SaidLine
     ensures { result ≡ line_of (codes "-" ∷ []) }
 {
@@ -188,7 +189,7 @@ fn silence() -> SaidLine
     said
 }
 
-/// Returns the answer to a line with bad hex at a place.
+/// Returns the answer to a line with bad hex at `place`.
 fn bad_hex(place: usize) -> SaidLine
     ensures { result ≡ bad_line (fault_text (BadHex place)) }
 {

@@ -1,7 +1,7 @@
 use Rattle.std.proofs.Common.{arith, []}
 use Rattle.hart_device.proofs.lemmas.Laws.{deliveries_bring_one-one}
-use Rattle.hart_cli.specs.text.Items.{closed}
-use Rattle.hart_cli.proofs.lemmas.text.Items.{NoPieceBegins-nil, one_reading}
+use Rattle.hart_text.specs.Items.{closed}
+use Rattle.hart_text.proofs.lemmas.Items.{NoPieceBegins-nil, one_reading}
 use Rattle.hart_cli.proofs.lemmas.text.MessageLine.{IsMessageLine-one}
 use Rattle.hart_cli.proofs.calls.answer.one_answer.Goals as goal
 

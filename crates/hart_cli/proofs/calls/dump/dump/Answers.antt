@@ -1,5 +1,6 @@
 use Rattle.std.proofs.Common.{arith, ℕ, List, Option, []}
 use Rattle.std.proofs.lemmas.Result.{err_from_is_err_and}
+use Rattle.hart_text.specs.Items.{NoPieceBegins, ReadsUpTo}
 use Rattle.hart_cli.specs.declared.calls.dump.frame_lines.FrameLines.{FrameLines}
 use Rattle.hart_cli.specs.declared.fault.CliFault.{CliFault}
 use Rattle.hart_cli.specs.dump.Dump.{AreDecidedLines, AreFrameLines}
@@ -8,7 +9,6 @@ use Rattle.hart_cli.specs.input.Decoding.{item_decoding, most_ahead}
 use Rattle.hart_cli.specs.input.Input.{input_limit}
 use Rattle.hart_cli.specs.input.LiveInput.{ReadsText}
 use Rattle.hart_cli.specs.stream.Stream.{Stream, WritesAll}
-use Rattle.hart_cli.specs.text.Items.{NoPieceBegins, ReadsUpTo}
 use Rattle.hart_cli.proofs.lemmas.Writes.{FailsToWrite-on, WritesAll-on}
 use Rattle.hart_cli.proofs.lemmas.dump.FrameLines.{all_lines}
 use Rattle.hart_cli.proofs.lemmas.input.Decoded.{ends_with, stops_in}

@@ -2,21 +2,19 @@ use Rattle.std.proofs.Common.{◌≡◌, ◌+◌, [], ◌++◌, refl, ◌∙◌,
 use Rattle.std.proofs.KnownBytes.{Appends-nil, Consumes-nil}
 use Rattle.std.proofs.lemmas.Grind.{common_steps}
 use Rattle.std.proofs.lemmas.Result.{err_from_is_err_and}
+use Rattle.hart_text.specs.Items.{nothing, MayBegin, NoPieceBegins, ReadsUpTo}
+use Rattle.hart_text.proofs.lemmas.Items.{item_laws, NoPieceBegins-nil, ReadsUpTo-few}
+use Rattle.hart_text.proofs.lemmas.Reads.{may_begin-nil}
 use Rattle.hart_cli.specs.dump.Dump.{AreDecidedLines}
 use Rattle.hart_cli.specs.input.Input.{input_limit}
 use Rattle.hart_cli.specs.input.Decoding.{item_decoding, most_ahead}
 use Rattle.hart_cli.specs.input.LiveInput.{IsDecidedText, WroteInTime}
-use Rattle.hart_cli.specs.text.Items.{nothing}
 use Rattle.hart_cli.proofs.calls.dump.scan_input.Given.{Over}
 use Rattle.hart_cli.proofs.calls.dump.scan_input.Goals.{After-hear_text-rest}
 use Rattle.hart_cli.proofs.lemmas.Writes.{WritesAll-on, in_time_on}
 use Rattle.hart_cli.proofs.lemmas.dump.FrameLines.{has_long, has_nothing, waits_nothing}
 use Rattle.hart_cli.proofs.lemmas.dump.ScanInput.{HeardUpTo, heard_places, heard_step, hears_all, stopped_writing}
 use Rattle.hart_cli.proofs.lemmas.input.Decoded.{more_read, read_on, rest_within}
-use Rattle.hart_cli.specs.text.Items.{MayBegin, NoPieceBegins, ReadsUpTo}
-use Rattle.hart_cli.proofs.lemmas.text.InputChars.{item_laws}
-use Rattle.hart_cli.proofs.lemmas.text.Reads.{may_begin-nil}
-use Rattle.hart_cli.proofs.lemmas.text.Items.{NoPieceBegins-nil, ReadsUpTo-few}
 use Rattle.hart_cli.proofs.calls.dump.scan_input.Goals as goal
 
 pub loop-frames-init : goal.loop-frames-init
@@ -51,7 +49,7 @@ hear_text-rest-requires g c =
     let long = has_long heard.chars c.loop-frames.frames.first c.loop-frames.frames.held _ heard.has in
     grind (arith, common_steps, ReadsUpTo-few)
 
--- what was read is heard
+-- after each step, the characters that were read are heard
 heard : (g : Over) (c : After-hear_text-rest g)
     → (now : HeardUpTo (g.R.Source.stream c.args.reader.now) (g.R.Source.stream c.read_ahead-portion.new.reader)
     c.hear_text-rest.new.self.first c.hear_text-rest.new.self.held c.read_ahead-portion.result.end c.hear_text-rest.result.now

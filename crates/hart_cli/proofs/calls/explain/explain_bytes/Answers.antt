@@ -1,36 +1,98 @@
-use Rattle.std.proofs.Common.{arith}
+use Rattle.std.proofs.Common.{◌≡◌, ◌≤◌, ◌∙◌, refl, arith, length, length-take, take, ◌+◌}
 use Rattle.std.proofs.lemmas.Result.{err_from_is_err_and}
-use Rattle.hart_cli.specs.explain.Explanation.{IsDecidedIn, IsTextIn}
-use Rattle.hart_cli.specs.input.Decoding.{raw_decoding, raw_limit}
-use Rattle.hart_cli.proofs.lemmas.explain.TellInput.{explains_all, stops_at_rest}
-use Rattle.hart_cli.proofs.lemmas.input.Raw.{raw_ends_with}
+use Rattle.hart_cli.specs.explain.Explanation.{IsDecidedIn}
+use Rattle.hart_cli.specs.input.Decoding.{raw_decoding}
+use Rattle.hart_cli.specs.input.Input.{most_at_once}
+use Rattle.hart_cli.specs.input.LiveInput.{IsDecidedText, WroteInTime}
+use Rattle.hart_cli.proofs.calls.explain.explain_bytes.Given.{Over}
+use Rattle.hart_cli.proofs.calls.explain.explain_bytes.Goals.{After-read_portion-portion, After-write}
+use Rattle.hart_listen.specs.Teller.{moment}
+use Rattle.hart_cli.proofs.lemmas.explain.Printer.{prints_page}
+use Rattle.hart_cli.proofs.lemmas.explain.TellRaw.{RawUpTo, raw_fits, raw_more, raw_nothing, raw_outcome, raw_places_end, raw_step}
+use Rattle.hart_cli.proofs.lemmas.explain.TellRaw.{raw_stopped}
 use Rattle.hart_cli.proofs.calls.explain.explain_bytes.Goals as goal
 
-pub finish-requires-clause-places : goal.finish-requires-clause-places
-finish-requires-clause-places g c = c.in_ok-fault.ensures.places
+pub loop-end-init : goal.loop-end-init
+loop-end-init g c = record {
+  buffer_length = refl;
+  heard = raw_nothing _ _ c.args.style c.new-listener.result _ c.new-listener.ensures c.new-2.ensures refl;
+  quiet = c.new-2.ensures.quiet;
+  unfailed = c.new-2.ensures.unfailed;
+  within = omega arith;
+}
 
-pub finish-requires-clause-dated : goal.finish-requires-clause-dated
-finish-requires-clause-dated g c = omega (arith, c.in_ok-fault.ensures.waiting.dated)
+pub hear_bytes-requires-clause-places : goal.hear_bytes-requires-clause-places
+hear_bytes-requires-clause-places g c =
+    raw_fits (g.R.Source.stream c.args.reader.now) (g.R.Source.stream c.loop-end.reader)
+    (g.R.Source.stream c.read_portion-portion.new.reader) (g.W.Sink.stream c.args.writer.now) (g.W.Sink.stream c.loop-end.writer)
+    c.args.style c.loop-end.listener c.loop-end.printer c.loop-end.read
+    (take c.read_portion-portion.result.len c.read_portion-portion.new.buffer)
+    c.read_portion-portion.result.end c.loop-end.invariant.heard c.read_portion-portion.ensures.reads
 
-pub returns-in_err-finish : goal.returns-in_err-finish
-returns-in_err-finish g c =
-    let stop = err_from_is_err_and c.from_residual-in_err-finish.result c.from_residual-in_err-finish.ensures.1 in
+-- one read gives no more bytes than the buffer has
+few : (g : Over) (c : After-read_portion-portion g)
+    → (length (take c.read_portion-portion.result.len c.read_portion-portion.new.buffer) ≤ most_at_once)
+    × (c.read_portion-portion.result.len ≡ length (take c.read_portion-portion.result.len c.read_portion-portion.new.buffer))
+few g c =
+    let within = c.read_portion-portion.ensures.within in
+    let long = length-take c.read_portion-portion.result.len c.read_portion-portion.new.buffer in
+    let kept = c.read_portion-portion.ensures.kept ∙ c.loop-end.invariant.buffer_length in
+    (omega (arith, within, long, kept), omega (arith, within, long))
+
+-- what was read was heard, and its text was written unless a write failed
+heard : (g : Over) (c : After-write g)
+    → (now : RawUpTo (g.R.Source.stream c.args.reader.now) (g.R.Source.stream c.read_portion-portion.new.reader)
+    c.args.style c.hear_bytes.new.self (record c.hear_bytes.new.teller { page = c.write.new.self }) c.read_portion-portion.result.end
+    (c.loop-end.read + c.read_portion-portion.result.len)
+    (g.W.Sink.stream c.args.writer.now) (g.W.Sink.stream c.write.new.writer))
+    × WroteInTime (IsDecidedText raw_decoding (IsDecidedIn c.args.style)) now.input (g.W.Sink.stream c.args.writer.now)
+    (g.W.Sink.stream c.write.new.writer)
+heard g c =
+    let one = few g (goal.at.After-write g c).After-read_portion-portion in
+    let loop = c.loop-end.invariant in
+    let start = moment (record c.loop-end.printer { style = c.args.style }) c.args.writer.now in
+    let since = moment c.loop-end.printer c.loop-end.writer in
+    raw_step _ _ _ _ _ _ c.args.style c.loop-end.listener _ c.loop-end.printer _ c.loop-end.read c.read_portion-portion.result.len _
+    c.read_portion-portion.result.end one.1 loop.heard loop.quiet loop.unfailed c.read_portion-portion.ensures.reads one.0
+    (λ earlier s. prints_page c.args.style _ _ c.hear_bytes.new.self c.hear_bytes.new.teller _ _ _ _ refl c.write.ensures.takes
+    (c.hear_bytes.ensures.hears start since earlier s))
+    c.hear_bytes.ensures.waiting
+
+pub returns-in_err-write : goal.returns-in_err-write
+returns-in_err-write g c =
+    let (now, in_time) = heard g (goal.at.returns-in_err-write g c).After-write in
+    let stop = err_from_is_err_and c.from_residual.result c.from_residual.ensures.1 in
     rw (stop.1, stop.2)
-    (rw c.new-telling.ensures.style at
-    (stops_at_rest raw_decoding raw_limit _ _ _ _ _ c.new-telling.result _ _ c.new-telling.ensures.new c.in_ok-fault.ensures
-    c.in_err-finish.ensures))
+    (raw_stopped _ _ _ _ c.args.style _ _ _ _ now in_time c.in_err-write.ensures.failed)
+
+pub finish-requires-clause-waiting : goal.finish-requires-clause-waiting
+finish-requires-clause-waiting g c =
+    let (now, in_time) = heard g (goal.at.finish-requires-clause-waiting g c).After-write in now.waiting
+
+pub finish-requires-clause-places : goal.finish-requires-clause-places
+finish-requires-clause-places g c =
+    let (now, in_time) = heard g (goal.at.finish-requires-clause-places g c).After-write in
+    raw_places_end _ _ c.args.style _ _ _ _ _ _ now
 
 pub returns-in-Some : goal.returns-in-Some
 returns-in-Some g c =
-    let all = rw c.in-Some.is at c.in_ok-fault.ensures in
-    let (text, reads, wrote) =
-    rw c.new-telling.ensures.style at
-    (explains_all raw_decoding raw_limit _ _ _ _ _ c.new-telling.result _ _ c.new-telling.ensures.new all c.in_ok-finish.ensures) in
-    raw_ends_with raw_limit (IsTextIn c.args.style) (IsDecidedIn c.args.style) _ _ _ _ c.in-Some.fault text reads wrote
+    let (now, in_time) = heard g (goal.at.returns-in-Some g c).After-write in
+    let start = moment (record c.loop-end.printer { style = c.args.style }) c.args.writer.now in
+    let since = moment c.loop-end.printer c.write.new.writer in
+    raw_outcome _ _ _ _ _ c.args.style _ _ c.read_portion-portion.result.end c.in-Some.end _ c.finish.result c.in-Some.is now in_time
+    ((rw c.fault.ensures at c.finish.ensures) start since _ now.stands)
 
-pub returns-in-None : goal.returns-in-None
-returns-in-None g c =
-    rw c.new-telling.ensures.style at
-    (explains_all raw_decoding raw_limit _ _ _ _ _ c.new-telling.result _ _ c.new-telling.ensures.new
-    (rw c.in-None.is at c.in_ok-fault.ensures)
-    c.in_ok-finish.ensures)
+pub loop-end-preserved : goal.loop-end-preserved
+loop-end-preserved g c =
+    let (now, in_time) = heard g (goal.at.loop-end-preserved g c).After-write in
+    let one = few g (goal.at.loop-end-preserved g c).After-read_portion-portion in
+    let bytes = take c.read_portion-portion.result.len c.read_portion-portion.new.buffer in
+    let more = raw_more (g.R.Source.stream c.loop-end.reader) (g.R.Source.stream c.read_portion-portion.new.reader) bytes c.loop-end.read
+    c.read_portion-portion.result.end c.read_portion-portion.ensures.reads c.in_default.is in
+    record {
+      buffer_length = c.read_portion-portion.ensures.kept ∙ c.loop-end.invariant.buffer_length;
+      heard = rw c.in_default.is at now;
+      quiet = c.in_ok-write.ensures.quiet;
+      unfailed = c.in_ok-write.ensures.failed;
+      within = omega (arith, more.1, one.1, c.loop-end.invariant.within);
+    }

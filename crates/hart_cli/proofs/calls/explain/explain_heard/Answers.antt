@@ -1,39 +1,114 @@
-use Rattle.std.proofs.Common.{arith}
+use Rattle.std.proofs.Common.{◌≡◌, ◌+◌, ◌∙◌, drop, refl, arith}
+use Rattle.std.proofs.lemmas.Grind.{common_steps}
+use Rattle.std.proofs.lemmas.List.{take_rest}
 use Rattle.std.proofs.lemmas.Result.{err_from_is_err_and}
-use Rattle.hart_cli.specs.explain.Explanation.{IsDecidedIn, IsTextIn}
+use Rattle.hart_text.specs.Heard.{NothingBegins, ReadsHeard}
+use Rattle.hart_text.proofs.lemmas.Heard.{heard_laws, nothing_open}
+use Rattle.hart_text.specs.Items.{Opens}
+use Rattle.hart_cli.specs.explain.Explanation.{IsDecidedIn}
 use Rattle.hart_cli.specs.input.Decoding.{heard_decoding, most_heard_ahead}
 use Rattle.hart_cli.specs.input.Input.{stream_limit}
-use Rattle.hart_cli.specs.text.Heard.{NothingBegins, ReadsHeard}
-use Rattle.hart_cli.proofs.lemmas.explain.TellInput.{explains_all, stops_at_rest}
-use Rattle.hart_cli.proofs.lemmas.input.Decoded.{ends_with}
+use Rattle.hart_cli.specs.input.LiveInput.{IsDecidedText, WroteInTime}
+use Rattle.hart_cli.proofs.calls.explain.explain_heard.Given.{Over}
+use Rattle.hart_cli.proofs.calls.explain.explain_heard.Goals.{After-write}
+use Rattle.hart_listen.specs.Teller.{moment}
+use Rattle.hart_cli.proofs.lemmas.explain.Printer.{prints_page}
+use Rattle.hart_cli.proofs.lemmas.explain.TellInput.{HeardUpTo, heard_nothing, heard_outcome, heard_step, places_end, places_fit}
+use Rattle.hart_cli.proofs.lemmas.explain.TellInput.{stops_up_to}
+use Rattle.hart_cli.proofs.lemmas.input.Decoded.{more_read, read_on, rest_within}
 use Rattle.hart_cli.proofs.calls.explain.explain_heard.Goals as goal
 
-pub finish-requires-clause-places : goal.finish-requires-clause-places
-finish-requires-clause-places g c = c.in_ok-fault.ensures.places
+pub loop-ahead-init : goal.loop-ahead-init
+loop-ahead-init g c =
+    rw c.new-ahead.ensures (record {
+      buffer_length = grind (arith, common_steps);
+      heard = heard_nothing _ _ c.args.style c.new-listener.result _ c.new-listener.ensures c.new-2.ensures refl;
+      quiet = c.new-2.ensures.quiet;
+      unfailed = c.new-2.ensures.unfailed;
+      within = omega arith;
+      short = omega arith;
+      is_open = nothing_open;
+    })
 
-pub finish-requires-clause-dated : goal.finish-requires-clause-dated
-finish-requires-clause-dated g c = omega (arith, c.in_ok-fault.ensures.waiting.dated)
+pub hear_text-place-requires-clause-places : goal.hear_text-place-requires-clause-places
+hear_text-place-requires-clause-places g c =
+    let loop = c.loop-ahead.invariant in
+    let fits = places_fit _ _ c.args.style c.loop-ahead.listener c.loop-ahead.printer _ _ c.loop-ahead.read _ _ loop.heard loop.within in
+    omega (arith, fits, c.as_slice.ensures.fits)
 
-pub returns-in_err-finish : goal.returns-in_err-finish
-returns-in_err-finish g c =
-    let stop = err_from_is_err_and c.from_residual-in_err-finish.result c.from_residual-in_err-finish.ensures.1 in
+-- what was read was heard, and its text was written unless a write failed
+heard : (g : Over) (c : After-write g)
+    → (now : HeardUpTo (g.R.Source.stream c.args.reader.now) (g.R.Source.stream c.read_ahead-portion.new.reader)
+    c.args.style c.hear_text-place.new.self (record c.hear_text-place.new.teller { page = c.write.new.self })
+    c.read_ahead-portion.result.end
+    (drop c.hear_text-place.result c.read_ahead-portion.new.ahead)
+    (c.loop-ahead.read + c.read_ahead-portion.result.len)
+    (g.W.Sink.stream c.args.writer.now) (g.W.Sink.stream c.write.new.writer))
+    × WroteInTime (IsDecidedText heard_decoding (IsDecidedIn c.args.style)) now.input
+    (g.W.Sink.stream c.args.writer.now) (g.W.Sink.stream c.write.new.writer)
+heard g c =
+    let loop = c.loop-ahead.invariant in
+    let text = rw c.as_slice.ensures.value at c.hear_text-place.ensures in
+    let few = rw c.as_slice.ensures.value at c.as_slice.ensures.fits in
+    let start = moment (record c.loop-ahead.printer { style = c.args.style }) c.args.writer.now in
+    let since = moment c.loop-ahead.printer c.loop-ahead.writer in
+    heard_step _ _ _ _ _ _ c.args.style c.loop-ahead.listener _ c.loop-ahead.printer _ _ _ _ c.loop-ahead.read
+    c.read_ahead-portion.result text.hears.heard loop.heard loop.quiet loop.unfailed loop.is_open c.read_ahead-portion.ensures.reads few
+    text.stops text.hears.reads
+    (λ earlier s. prints_page c.args.style _ _ c.hear_text-place.new.self c.hear_text-place.new.teller _ _ _ _ refl c.write.ensures.takes
+    (text.hears.hears start since earlier s))
+    text.waiting
+
+pub returns-in_err-write : goal.returns-in_err-write
+returns-in_err-write g c =
+    let (now, in_time) = heard g (goal.at.returns-in_err-write g c).After-write in
+    let stop = err_from_is_err_and c.from_residual.result c.from_residual.ensures.1 in
     rw (stop.1, stop.2)
-    (rw c.new-telling.ensures.style at
-    (stops_at_rest heard_decoding stream_limit _ _ _ _ _ c.new-telling.result _ _ c.new-telling.ensures.new c.in_ok-fault.ensures
-    c.in_err-finish.ensures))
+    (stops_up_to _ _ _ _ c.args.style _ _ _ _ _ now in_time c.in_err-write.ensures.failed)
 
-pub returns-in-Some : goal.returns-in-Some
-returns-in-Some g c =
-    let all = rw c.in-Some.is at c.in_ok-fault.ensures in
-    let (text, reads, wrote) =
-    rw c.new-telling.ensures.style at
-    (explains_all heard_decoding stream_limit _ _ _ _ _ c.new-telling.result _ _ c.new-telling.ensures.new all c.in_ok-finish.ensures) in
-    ends_with ReadsHeard NothingBegins most_heard_ahead stream_limit (IsTextIn c.args.style) (IsDecidedIn c.args.style) _ _ _ _
-    c.in-Some.fault text reads wrote
+pub next_heard_step-requires-clause-within : goal.next_heard_step-requires-clause-within
+next_heard_step-requires-clause-within g c =
+    let now = heard g (goal.at.next_heard_step-requires-clause-within g c).After-write in
+    rw (take_rest, c.as_slice-in-loop-ahead.ensures.value)
+    (rest_within ReadsHeard NothingBegins most_heard_ahead heard_laws stream_limit _ _ _ _ _ now.0.input now.0.heard now.0.decoded)
 
-pub returns-in-None : goal.returns-in-None
-returns-in-None g c =
-    rw c.new-telling.ensures.style at
-    (explains_all heard_decoding stream_limit _ _ _ _ _ c.new-telling.result _ _ c.new-telling.ensures.new
-    (rw c.in-None.is at c.in_ok-fault.ensures)
-    c.in_ok-finish.ensures)
+pub finish-requires-clause-waiting : goal.finish-requires-clause-waiting
+finish-requires-clause-waiting g c =
+    let (now, in_time) = heard g (goal.at.finish-requires-clause-waiting g c).After-write in now.waiting
+
+pub finish-requires-clause-places : goal.finish-requires-clause-places
+finish-requires-clause-places g c =
+    let (now, in_time) = heard g (goal.at.finish-requires-clause-places g c).After-write in
+    places_end _ _ c.args.style _ _ _ _ _ _ _ now
+
+pub returns-in-Stop : goal.returns-in-Stop
+returns-in-Stop g c =
+    let (now, in_time) = heard g (goal.at.returns-in-Stop g c).After-write in
+    let start = moment (record c.loop-ahead.printer { style = c.args.style }) c.args.writer.now in
+    let since = moment c.loop-ahead.printer c.write.new.writer in
+    heard_outcome _ _ _ _ _ c.args.style _ _ _ _ _ c.in-Stop.fault c.finish.result now in_time
+    (rw (take_rest, c.as_slice-in-loop-ahead.ensures.value) at c.in-Stop.ensures.step) (c.finish.ensures start since now.heard now.stands)
+
+pub loop-ahead-smaller : goal.loop-ahead-smaller
+loop-ahead-smaller g c =
+    let on = read_on (Opens NothingBegins) c.read_ahead-portion.result.end _ _ c.in-ReadOn.ensures.step in
+    let more = more_read _ _ _ _ _ c.read_ahead-portion.result c.read_ahead-portion.ensures.reads on.0 in
+    omega (arith, more.0, more.1)
+
+pub loop-ahead-preserved : goal.loop-ahead-preserved
+loop-ahead-preserved g c =
+    let (now, in_time) = heard g (goal.at.loop-ahead-preserved g c).After-write in
+    let step = rw (take_rest, c.as_slice-in-loop-ahead.ensures.value) at c.in-ReadOn.ensures.step in
+    let on = read_on (Opens NothingBegins) c.read_ahead-portion.result.end _ _ step in
+    let more = more_read _ _ _ _ _ c.read_ahead-portion.result c.read_ahead-portion.ensures.reads on.0 in
+    let kept : c.extend_from_slice.new.self ≡ drop c.hear_text-place.result c.read_ahead-portion.new.ahead =
+    grind (arith, common_steps, take_rest, c.unwrap-open.ensures, c.from_slice.ensures.kept) in
+    rw kept (record {
+      buffer_length = c.read_ahead-portion.ensures.kept ∙ c.loop-ahead.invariant.buffer_length;
+      heard = rw on.0 at now;
+      quiet = c.in_ok-write.ensures.quiet;
+      unfailed = c.in_ok-write.ensures.failed;
+      within = omega (arith, more.1, c.loop-ahead.invariant.within);
+      short = rw (take_rest, c.as_slice-in-loop-ahead.ensures.value) at (c.next_heard_step.ensures.short c.in-ReadOn.is);
+      is_open = on.1;
+    })

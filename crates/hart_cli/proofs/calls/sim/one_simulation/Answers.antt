@@ -9,7 +9,7 @@ use Rattle.hart_cli.specs.sim.Sim.{start_with}
 use Rattle.hart_line.specs.declared.fault.LineFault.TheVariants as line_faults
 use Rattle.hart_cli.proofs.calls.sim.one_simulation.Goals as goal
 
--- frames are spoken in one way
+-- spoken frames are kept in only one way
 AreSpoken-one : (frames : List SpokenFrame) (xs ys : List Spoken) → AreSpoken frames xs → AreSpoken frames ys → xs ≡ ys
 AreSpoken-one (said ∷ frames) (x ∷ xs) (y ∷ ys) p q =
     grind (arith, bodies_are_unambiguous-one_body said.frame x.bytes y.bytes, AreSpoken-one frames xs ys)

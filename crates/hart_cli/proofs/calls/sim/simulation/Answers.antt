@@ -29,7 +29,7 @@ logged_fault device input start AreNoted events (Memory none) script same (inr n
     inr (events, script, inr (inl (rw same at noting)))
 logged_fault device input start AreNoted events (BadLine number) script same is = absurd is
 
--- what a script led to on a line with this device, with its frames noted as this text
+-- a script was carried out: it led to this device and these outcomes, and its frames were noted as this text
 record IsCarriedOut (device : DeviceState) (events : List LineEvent) (noted : List ℕ) (outcomes : List Outcome) (after : DeviceState)
     : Type 0 where
   pub spoken : List Spoken
@@ -50,7 +50,7 @@ carried_out c =
       noted_is = rw c.new-text.ensures at noted;
     }
 
--- room that the last lines of a simulation need is room that its input needs
+-- if memory is needed for the last lines of a simulation, the input needs this memory
 written : {device : DeviceState} {events : List LineEvent} {noted : List ℕ} {outcomes : List Outcome} {after : DeviceState}
     → (done : IsCarriedOut device events noted outcomes after) → (input : List ℕ) (items : ℕ) → IsScript input events → 0 < items
     → IsNeededByOutcomes outcomes items ⊎ IsNeededByDevice after items

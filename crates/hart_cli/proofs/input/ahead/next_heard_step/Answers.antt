@@ -1,6 +1,6 @@
 use Rattle.std.proofs.Common.{IsTrue}
-use Rattle.hart_cli.specs.text.Heard.{NothingBegins}
-use Rattle.hart_cli.specs.text.Items.{Opens}
+use Rattle.hart_text.specs.Heard.{NothingBegins}
+use Rattle.hart_text.specs.Items.{Opens}
 use Rattle.hart_cli.proofs.lemmas.input.Decoded.{read_on, step_by}
 use Rattle.hart_cli.proofs.input.ahead.next_heard_step.Goals as goal
 

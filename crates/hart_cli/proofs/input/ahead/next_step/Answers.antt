@@ -1,5 +1,5 @@
 use Rattle.std.proofs.Common.{IsTrue}
-use Rattle.hart_cli.specs.text.Items.{MayBegin}
+use Rattle.hart_text.specs.Items.{MayBegin}
 use Rattle.hart_cli.proofs.lemmas.input.Decoded.{read_on, step_by}
 use Rattle.hart_cli.proofs.input.ahead.next_step.Goals as goal
 

@@ -4,7 +4,7 @@ use Rattle.std.proofs.Math.Seq.{take-append-add}
 use Rattle.hart_cli.specs.session.Server.{most_kept}
 use Rattle.hart_cli.proofs.session.server.keep.Goals as goal
 
--- keeping more bytes as far as there is room keeps the first `most` bytes of all
+-- if bytes are kept as far as there is room, the first `most` bytes of all are kept
 kept_bytes : (xs ys : List ℕ) (most count : ℕ) → length xs ≤ most → count ≡ min (length ys) (most - length xs)
     → xs ++ take count ys ≡ take most (xs ++ ys)
 kept_bytes xs ys most count few is = grind (arith, common_steps, take-append-add xs ys (most - length xs))

@@ -3,8 +3,8 @@ use Rattle.std.proofs.lemmas.Grind.{common_steps}
 use Rattle.std.proofs.lemmas.List.{take_rest}
 use Rattle.std.specs.Option.{option_to_list}
 use Rattle.hart_frame.specs.heard.Character.{faultless}
-use Rattle.hart_cli.specs.text.Items.{ReadsUpTo, nothing}
-use Rattle.hart_cli.proofs.lemmas.text.Items.{begins_reads, reads_on, room_for}
+use Rattle.hart_text.specs.Items.{ReadsUpTo, nothing}
+use Rattle.hart_text.proofs.lemmas.Items.{begins_reads, reads_on, room_for}
 use Rattle.hart_cli.proofs.text.input_chars.read_pieces.Goals.{in-Some-char, in_default-char}
 use Rattle.hart_cli.proofs.text.input_chars.read_pieces.Goals as goal
 

@@ -1,5 +1,5 @@
 use Rattle.std.proofs.Common.{◌≡◌, ◌-◌, ◌≤◌, length, drop}
-use Rattle.hart_cli.specs.text.Items.{ReadsUpTo}
+use Rattle.hart_text.specs.Items.{ReadsUpTo}
 use Rattle.hart_cli.proofs.text.input_chars.read_pieces.Given as goal
 
 abbrev pub invariant-loop-lead : goal.invariant-loop-lead

@@ -1,4 +1,4 @@
-//! The texts of help for the commands that keep a device or a master from line to line.
+//! The help for `hart serve`, `hart master` and `hart sim`.
 
 use super::HelpPage;
 
@@ -65,7 +65,7 @@ Input (stdin): lines, each of which is one of these.
                    take a request in hand, given as in hart request
   send             ask for the message that is due
   heard ITEMS      hear a delivery, as in hart answer
-  tick N           N character times have passed, 0 to 255
+  tick N           N character times of silence have passed, 0 to 255
 Words have spaces between them; if a line has a tab, they have tabs between
 them instead, so that a value can have spaces. A line has at most 64 words and
 1048576 bytes, and a carriage return at its end does not count. The last line
@@ -75,8 +75,9 @@ Output (stdout): a line for each line, out before more is waited for.
   ok               the request is in hand
   refused: WHY     it is not: a request is pending, or wrong address
   send HEX         the message that is due; its reply is awaited from now on
-  answered N DATA  the only message of the delivery is the reply to the request
-                   in hand, which was sent N times; DATA are its payload in hex
+  answered N HEX   the only message of the delivery is the reply to the request
+                   in hand, which was sent N times; HEX is its payload, which
+                   begins with the two status bytes
   retry            no reply came in time: the message is due again
   noreply N        none came to any of N sendings: the request is given up
   -                nothing of these

@@ -6,7 +6,7 @@ use Rattle.hart_cli.specs.dump.Text.{burst_word, kind_word, master_word}
 use Rattle.hart_cli.specs.text.Words.{bytes_word, line_of}
 use Rattle.hart_cli.proofs.calls.dump.text.push_frame_line.Goals as goal
 
--- nine words that are added one by one make one line
+-- nine words that are appended one by one make the line of a frame
 one_line : (lines before start stop kind master burst address expansion command payload : List ℕ)
     → lines ≡ before ++ (start ++ 32 ∷ []) ++ stop ++ 32 ∷ [] ++ (kind ++ 32 ∷ []) ++ (master ++ 32 ∷ []) ++ burst ++ 32 ∷ []
     ++ address ++ 32 ∷ [] ++ expansion ++ 32 ∷ [] ++ command ++ 32 ∷ [] ++ payload ++ 10 ∷ []

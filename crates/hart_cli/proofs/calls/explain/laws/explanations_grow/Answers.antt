@@ -1,17 +1,12 @@
-use Rattle.hart_cli.specs.declared.calls.explain.teller.Style.TheVariants.{Words}
-use Rattle.hart_cli.proofs.lemmas.explain.Grow.{heard_grows, one_decided, raw_grows, read_grows}
+use Rattle.hart_cli.proofs.lemmas.explain.Grow.{decided_text, heard_grows, read_grows}
 use Rattle.hart_cli.proofs.calls.explain.laws.explanations_grow.Goals as goal
 
 pub returns-clause-one : goal.returns-clause-one
-returns-clause-one c heard xs ys a b = one_decided Words heard xs ys a b
+returns-clause-one c style heard xs ys a b = decided_text style heard xs ys a b
 
 pub returns-clause-heard : goal.returns-clause-heard
-returns-clause-heard c heard more told whole decided is = heard_grows Words heard more told whole decided is
+returns-clause-heard c style heard more told whole decided is = heard_grows style heard more told whole decided is
 
 pub returns-clause-read : goal.returns-clause-read
-returns-clause-read c input more ending fault told whole decided is =
-    read_grows Words input more ending fault told whole decided is
-
-pub returns-clause-raw : goal.returns-clause-raw
-returns-clause-raw c input more ending fault told whole decided is =
-    raw_grows Words input more ending fault told whole decided is
+returns-clause-read c style is_raw input more ending fault told whole decided is =
+    read_grows style is_raw input more ending fault told whole decided is

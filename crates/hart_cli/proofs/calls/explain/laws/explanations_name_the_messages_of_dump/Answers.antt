@@ -1,21 +1,25 @@
 use Rattle.std.proofs.Common.{◌≡◌, ◌++◌, ◌∷◌, ◌∙◌, [], ℕ, List, Option, ap, append-nil, map, sym}
+use Rattle.std.specs.List.{flat_map}
 use Rattle.hart_frame.specs.heard.Character.{Character}
 use Rattle.hart_frame.specs.heard.Sighting.{moved_seen}
 use Rattle.hart_frame.proofs.lemmas.Laws.{frames_are_unambiguous-one_list}
+use Rattle.hart_text.specs.Heard.{Heard, heard_chars, stretches}
+use Rattle.hart_text.specs.Items.{NoPieceBegins, ReadsUpTo}
+use Rattle.hart_text.proofs.lemmas.Items.{item_laws}
+use Rattle.hart_cli.specs.declared.calls.explain.printer.Style.TheVariants.{Words}
 use Rattle.hart_cli.specs.declared.fault.CliFault.{CliFault}
-use Rattle.hart_cli.specs.declared.calls.explain.teller.Style.TheVariants.{Words}
 use Rattle.hart_cli.specs.dump.Dump.{AreFrameLines}
 use Rattle.hart_cli.specs.dump.Text.{dump_text}
 use Rattle.hart_cli.specs.explain.Dumped.{AreOfOneHearing}
-use Rattle.hart_cli.specs.explain.Explanation.{AreSightingsFrom, IsExplanationOf, date_of, explanation, undated}
+use Rattle.hart_cli.specs.explain.Explanation.{IsTextIn}
+use Rattle.hart_listen.specs.Dated.{explanation, words_of}
+use Rattle.hart_listen.specs.Sightings.{AreSightingsFrom, date_of, undated}
 use Rattle.hart_cli.specs.input.Input.{Ending}
-use Rattle.hart_cli.specs.text.Heard.{Heard, heard_chars, stretches}
 use Rattle.hart_cli.specs.text.InputChars.{HasChars}
-use Rattle.hart_cli.specs.text.Items.{NoPieceBegins, ReadsUpTo}
-use Rattle.hart_cli.proofs.lemmas.explain.Dates.{no_date, same_dates}
-use Rattle.hart_cli.proofs.lemmas.explain.Sightings.{moved_none}
-use Rattle.hart_cli.proofs.lemmas.explain.InStretches.{stretches_chars}
-use Rattle.hart_cli.proofs.lemmas.text.InputChars.{item_laws, one_input}
+use Rattle.hart_listen.proofs.lemmas.Dates.{no_date, same_dates}
+use Rattle.hart_listen.proofs.lemmas.Sightings.{moved_none}
+use Rattle.hart_listen.proofs.lemmas.InStretches.{stretches_chars}
+use Rattle.hart_cli.proofs.lemmas.text.InputChars.{one_input}
 use Rattle.hart_cli.proofs.lemmas.text.NoMark.{plain_input}
 use Rattle.hart_cli.proofs.lemmas.text.Reads.{left_more, one_left}
 use Rattle.hart_cli.proofs.calls.explain.laws.explanations_name_the_messages_of_dump.Goals as goal
@@ -24,9 +28,9 @@ use Rattle.hart_cli.proofs.calls.explain.laws.explanations_name_the_messages_of_
 alone : (chars : List Character) → stretches (heard_chars chars) ≡ chars ∷ []
 alone chars = rw (append-nil (heard_chars chars), append-nil chars) at (stretches_chars chars [])
 
--- the frame lines and the explanation of the same characters are of one hearing
+-- the lines of `dump` and the explanation of the same characters are about the same messages
 of_one_hearing : (input : List ℕ) (ending : Ending) (xs ys : List Character) (heard : List Heard) (fault : Option CliFault)
-    (lines text : List ℕ) → xs ≡ ys → heard ≡ heard_chars ys → AreFrameLines xs lines → IsExplanationOf heard text
+    (lines text : List ℕ) → xs ≡ ys → heard ≡ heard_chars ys → AreFrameLines xs lines → IsTextIn Words heard text
     → HasChars input ending ys fault → AreOfOneHearing input ending fault lines text
 of_one_hearing input ending xs ys heard fault lines text same is dump said has =
     let parts : AreSightingsFrom 0 (ys ∷ []) said.seen = rw (alone ys) at (rw is at said.are_sightings) in
@@ -34,14 +38,14 @@ of_one_hearing input ending xs ys heard fault lines text same is dump said has =
     let frames : dump.frames ≡ seen.frames =
     frames_are_unambiguous-one_list ys 0 dump.frames seen.frames (rw same at dump.are_frames) seen.are_frames in
     let all : said.seen ≡ parts.0 = parts.4 ∙ (ap (λ zs. map (moved_seen 0) parts.0 ++ zs) parts.3 ∙ (append-nil _ ∙ moved_none parts.0)) in
-    let bare = same_dates Words (date_of heard) undated (rw is (no_date ys)) said.seen in
+    let bare = ap (flat_map words_of) (same_dates (date_of heard) undated (rw is (no_date ys)) said.seen) in
     record {
       chars = ys;
       has_chars = has;
       frames = seen.frames;
       are_frames = seen.are_frames;
       dumped = dump.text ∙ ap dump_text frames;
-      explained = said.text_is ∙ (bare ∙ (ap (explanation undated) all ∙ ap (explanation undated) seen.seen_is));
+      explained = said.text_is ∙ (bare ∙ (ap (explanation undated []) all ∙ ap (explanation undated []) seen.seen_is));
     }
 
 pub returns-clause-whole : goal.returns-clause-whole

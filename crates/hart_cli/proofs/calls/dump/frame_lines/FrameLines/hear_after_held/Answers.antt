@@ -5,7 +5,7 @@ use Rattle.hart_cli.proofs.lemmas.dump.FrameLines.{heard_bytes}
 use Rattle.hart_cli.proofs.calls.dump.frame_lines.FrameLines.hear_after_held.Goals.{After-let_go}
 use Rattle.hart_cli.proofs.calls.dump.frame_lines.FrameLines.hear_after_held.Goals as goal
 
--- the bytes are heard
+-- after the call, the bytes are heard
 heard : (c : After-let_go) → Hears c.args.self.now c.let_go.new.self (faultless c.args.bytes.now) × IsWaiting c.let_go.new.self.held
 heard c =
     rw c.let_go.ensures (heard_bytes c.args.self.now _ c.args.bytes.now c.push_decided-used.result

@@ -2,11 +2,11 @@ use Rattle.std.proofs.Common.{◌-◌, drop, take, length, arith, []}
 use Rattle.std.proofs.lemmas.Grind.{common_steps}
 use Rattle.std.proofs.lemmas.List.{take_rest}
 use Rattle.std.specs.Option.{option_to_list}
+use Rattle.hart_text.specs.Items.{nothing}
+use Rattle.hart_text.proofs.lemmas.Items.{ReadsUpTo-few, begins_reads}
 use Rattle.hart_cli.specs.dump.FrameLines.{HearsText}
-use Rattle.hart_cli.specs.text.Items.{nothing}
 use Rattle.hart_cli.proofs.calls.dump.frame_lines.FrameLines.hear_text.Goals.{After-hear_bytes}
 use Rattle.hart_cli.proofs.lemmas.dump.FrameLines.{hears_long, hears_nothing, text_on}
-use Rattle.hart_cli.proofs.lemmas.text.Items.{ReadsUpTo-few, begins_reads}
 use Rattle.hart_cli.proofs.calls.dump.frame_lines.FrameLines.hear_text.Goals as goal
 
 pub loop-lead-init : goal.loop-lead-init
@@ -21,7 +21,7 @@ hear_bytes-requires c =
     let long = hears_long c.args.self.now c.loop-lead.self heard.chars heard.hears in
     grind (arith, common_steps, ReadsUpTo-few)
 
--- the chunk is heard
+-- after each step, the chunk is heard
 heard : (c : After-hear_bytes) → HearsText c.args.self.now c.hear_bytes.new.self c.args.text.now
     (take (length c.loop-lead.rest.now - c.read_chunk-len.result) (drop c.read_chunk-len.result c.loop-lead.rest.now))
 heard c = grind (arith, take_rest, text_on)

@@ -8,19 +8,19 @@ use Rattle.hart_line.specs.declared.line.report.Outcome.{Outcome}
 use Rattle.hart_cli.specs.sim.Text.{IsNeededByOutcomes, outcome_line}
 use Rattle.hart_cli.proofs.calls.sim.text.SimText.push_outcomes.Goals as goal
 
--- the items after the first part of a list have the next numbers
+-- if a list is numbered, the items after its first part go on with the next numbers
 numbered_on : {X : Type 0} (n : ℕ) (xs more : List X)
     → enumerate_from n (xs ++ more) ≡ enumerate_from n xs ++ enumerate_from (n + length xs) more
 numbered_on n [] more = grind arith
 numbered_on n (x ∷ xs) more = grind (arith, numbered_on (n + 1) xs more)
 
--- one more submission adds its line
+-- the text of submissions up to index `i + 1` ends with the line of submission `i`
 outcomes_more : (outcomes : List Outcome) (i : ℕ) (d : Outcome) → i < length outcomes
     → flat_map outcome_line (enumerate_from 1 (take (i + 1) outcomes))
     ≡ flat_map outcome_line (enumerate_from 1 (take i outcomes)) ++ outcome_line (i + 1, get_or outcomes i d)
 outcomes_more outcomes i d below = grind (arith, common_steps, length-take, numbered_on, take_more)
 
--- room for the line of a submission is room that the outcomes need
+-- if memory is needed for the line of a submission, the outcomes need this memory
 outcome_needed : (outcomes : List Outcome) (i : ℕ) (d : Outcome) (items : ℕ) → i < length outcomes
     → items ≡ length (outcome_line (i + 1, get_or outcomes i d)) → IsNeededByOutcomes outcomes items
 outcome_needed outcomes i d items below is =

@@ -1,2 +1,0 @@
--- Values of fields.
-pub mod Texts
