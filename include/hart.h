@@ -24,7 +24,7 @@
 extern "C" {
 #endif
 
-/* A length or a count: a size_t of 64 bits. Where pointers have 32 bits, as in examples/cortex-m, it has 64 bits still. */
+/* A length or a count, always of 64 bits, even where pointers have 32 bits, as in examples/cortex-m. */
 #if UINTPTR_MAX < UINT64_MAX
 typedef uint64_t hart_size;
 #else
@@ -44,7 +44,7 @@ typedef struct hart_frame {
     bool is_reply;           /* true for a reply (ACK), false for a request (STX) */
     bool is_primary;         /* true for the primary master, false for the secondary master */
     bool is_burst;           /* the burst bit */
-    bool is_unique;          /* true for a unique address; it is broadcast if device_id and expanded_type are 0 */
+    bool is_unique;          /* true for a unique address, which is broadcast if device_id and expanded_type are 0 */
     uint8_t polling_address; /* at most 63; 0 for a unique address */
     uint8_t command;         /* the command number */
     uint8_t expansion_len;   /* 0 to 3 */
@@ -58,7 +58,7 @@ enum {
     HART_OK = 0,
     HART_TOO_SHORT_REPLY = 1, /* a reply whose payload is shorter than the two status bytes */
     HART_BAD_PREAMBLE = 2,    /* a number of preamble bytes outside 5 to 20 */
-    HART_BAD_DELIMITER = 3,   /* the first byte is no delimiter of this profile */
+    HART_BAD_DELIMITER = 3,   /* the first byte is no STX or ACK delimiter */
     HART_TRUNCATED = 4,       /* the bytes end before the check byte */
     HART_BAD_CHECK = 5,       /* the exclusive or of the body with its check byte is not 0 */
     HART_SHORT_REPLY = 6,     /* the byte count of a reply is below 2 */
@@ -67,7 +67,7 @@ enum {
     HART_NO_ROOM = 12,        /* the output is too short for what is to be written */
     HART_BAD_FAULT_BITS = 13, /* `faults` of a character has a bit that is no fault bit */
     HART_NO_REPLY = 14,       /* a payload is no reply to the command */
-    HART_UNKNOWN = 15,        /* there is no such command or field */
+    HART_UNKNOWN = 15,        /* there is no such command or field, or no name */
     HART_OUT_OF_RANGE = 16,   /* a number of an identity is out of range */
     HART_BROADCAST_ADDRESS = 17, /* the unique address of an identity would be broadcast */
     HART_BAD_VERSION = 18,    /* an image of an unknown version */
@@ -75,13 +75,15 @@ enum {
                                * of other than 6, 12 or 24 bytes */
     HART_BAD_FIELD = 20,      /* a polling address above 63, a loop current mode above 1, an invalid date, or image flags above 7 */
     HART_BAD_VARIABLES = 21,  /* a process without a dynamic variable, or with more than four */
-    HART_TOO_LONG = 22,       /* a delivery of more than 1,024 characters, or more data or text than there can be */
+    HART_TOO_LONG = 22,       /* a delivery of more than 1,024 characters, more data than a reply can have, or more text than
+                               * the packed text can have */
     HART_NO_REQUEST = 23,     /* a frame that is a reply, has expansion bytes or the burst bit, or has refused data */
     HART_WRONG_ADDRESS = 24,  /* a command not allowed at this kind of address */
     HART_PENDING = 25,        /* the master has a request in hand already */
-    HART_BAD_MASTER = 26,     /* more than 15 retries, a reply limit of 0, or a master that no call leaves so */
+    HART_BAD_MASTER = 26,     /* more than 15 retries, a reply limit of 0, or a state, request or sendings that no call writes */
     HART_BAD_CODE = 27,       /* a response code above 127 */
-    HART_BAD_CHARACTER = 28   /* a character that packed text does not have */
+    HART_BAD_CHARACTER = 28,  /* a character that packed text does not have */
+    HART_BAD_STYLE = 29       /* a style of explanation other than HART_WORDS and HART_JSON */
 };
 
 /* Returns an English text of a fault, for logs. This is plain C: nothing of it is proved. */
@@ -91,11 +93,12 @@ static inline const char *hart_fault_text(uint8_t fault)
         "no fault", "a reply without its status bytes", "a number of preamble bytes outside 5 to 20", "no delimiter", "too few bytes",
         "a bad check byte", "a byte count of a reply below 2", NULL, NULL, NULL, "a number of an address out of range",
         "more than three expansion bytes", "no room in the output", "an unknown fault bit", "no reply to the command",
-        "no such command or field", "a number of an identity out of range", "an identity with the broadcast address",
-        "an image of an unknown version", "an image of a bad length", "a bad value of a register", "no dynamic variable, or more than four",
-        "more than 1,024 characters", "no request of a master", "a command not allowed at this address", "a request in hand already",
-        "limits or a state that no master has", "a response code above 127",
-        "a character that packed text does not have"};
+        "no such command, field or name", "a number of an identity out of range", "an identity with the broadcast address",
+        "an image of an unknown version", "an image or packed text of a bad length", "a bad value of a register",
+        "no dynamic variable, or more than four", "too many characters, or too much data or text", "no request of a master",
+        "a command not allowed at this address", "a request in hand already", "limits or a state that no master has",
+        "a response code above 127",
+        "a character that packed text does not have", "an unknown style of explanation"};
     const char *text = fault < sizeof texts / sizeof texts[0] ? texts[fault] : NULL;
     return text ? text : "an unknown fault";
 }
@@ -126,29 +129,29 @@ typedef struct hart_char {
 
 /* The result of a search. */
 typedef struct hart_search {
-    hart_size used;  /* how many elements are used up; pass the later elements again, followed by new elements */
+    hart_size used;  /* how many elements are used up; pass the elements after them again, followed by new elements */
     hart_size count; /* how many frames were found: frames[0] to frames[count - 1]; later elements of `frames` are unchanged */
     uint8_t fault;   /* HART_OK, or why nothing was done */
 } hart_search;
 
 /* Finds the next frames in bytes without faults, at most `frames_len` frames. `ended` says that no more bytes will come.
- * Returns how many bytes are used up. Pass the later bytes again, followed by new bytes. Offsets count from the first byte that is
- * passed. If `frames` has room for more frames, the call leaves at most 268 bytes, and no byte if `ended` is true. Repeated calls find
- * exactly the frames of the whole input, however the input is divided. A buffer of 269 bytes is enough. No fault. */
+ * Returns how many bytes are used up. Pass the bytes after them again, followed by new bytes. Offsets count from the first byte that is
+ * passed. If `frames` has room for more frames, the call leaves at most 268 bytes unused, and none if `ended` is true. Repeated calls find
+ * exactly the frames of the whole input, however the input is divided. A buffer of 269 bytes is enough. Faults: none. */
 hart_search hart_find_in_bytes(const uint8_t *bytes, hart_size bytes_len, bool ended, hart_frame *frames, hart_size frames_len);
 
 /* Like hart_find_in_bytes, for characters with fault bits. Fault: HART_BAD_FAULT_BITS, and then nothing is found or used up. */
 hart_search hart_find(const hart_char *heard, hart_size heard_len, bool ended, hart_frame *frames, hart_size frames_len);
 
-/* How far marks were read. */
+/* The result of hart_unmark. */
 typedef struct hart_unmarked {
-    hart_size used; /* how many bytes are used up; pass the later bytes again, followed by new ones */
+    hart_size used; /* how many bytes are used up; pass the bytes after them again, followed by new ones */
     hart_size len;  /* how many characters were written */
 } hart_unmarked;
 
 /* Reads what a POSIX port delivers with INPCK and PARMRK and without ISTRIP, and writes its characters to the front of `heard`, as far as
- * there is room: FF 00 x is the byte x with a receive error, faults 0x40; FF before any other byte is left out, so FF FF is FF. A mark that
- * is cut at the end is left: FF, or FF 00. No fault. */
+ * there is room: FF 00 x is the byte x with a receive error, faults 0x40; FF before any other byte is left out, so FF FF is FF. An
+ * incomplete mark at the end, FF or FF 00, is not used up. Faults: none. */
 hart_unmarked hart_unmark(const uint8_t *bytes, hart_size bytes_len, hart_char *heard, hart_size heard_len);
 
 /* The number of bytes that were written or read. */
@@ -162,8 +165,8 @@ typedef struct hart_outcome {
  * HART_SHORT_REPLY, HART_TRUNCATED (before the check byte), HART_BAD_CHECK. */
 hart_outcome hart_decode(const uint8_t *bytes, hart_size bytes_len, hart_frame *frame);
 
-/* Writes a frame as a message to the front of `output`: preamble bytes, `preambles` of them, then the body. Returns the length; 287 bytes
- * are enough for any message. Ignores `start`, `stop` and the fields of the unused kind of address.
+/* Writes a frame as a message to the front of `output`: `preambles` preamble bytes, then the body. Returns the length; 287 bytes are
+ * enough for any message. Ignores `start`, `stop` and the fields of the unused kind of address.
  * Faults: HART_BAD_ADDRESS, HART_LONG_EXPANSION, HART_TOO_SHORT_REPLY, HART_BAD_PREAMBLE, HART_NO_ROOM. */
 hart_outcome hart_encode(const hart_frame *frame, uint8_t preambles, uint8_t *output, hart_size output_len);
 
@@ -189,18 +192,18 @@ typedef struct hart_field {
     uint8_t kind;  /* HART_BYTES to HART_UNIT_CODE */
 } hart_field;
 
-/* What was read of the data of a message. */
+/* The result of reading the data of a message. */
 typedef struct hart_reading {
     hart_size count; /* how many fields there are, even if `fields` has room for fewer; elements without a field are unchanged */
     hart_size taken; /* how many bytes are taken, status bytes included; unless the data are refused, later bytes are ignored */
     uint8_t code;    /* for a reply its response code; for a request the response code that refuses it, or 0 */
     uint8_t status;  /* for a reply its device status; for a request 0 */
-    uint8_t fault;   /* HART_OK, or why nothing was read; all other numbers are then 0, also `code`, which is then no success */
+    uint8_t fault;   /* HART_OK, or why nothing was read; all other numbers are then 0, and a `code` of 0 does not mean success */
 } hart_reading;
 
 /* Reads the data of a request of this command, and writes its fields; 16 elements are enough for any data. A refused request has no fields,
  * and no bytes are taken. Its code is the first of these that applies: 64 for an unknown command, 5 for too few bytes, 2 for Command 6 with
- * an address above 63, 12 for Command 6 with a mode above 1, 9 for Command 18 with a bad date. No fault.
+ * an address above 63, 12 for Command 6 with a mode above 1, 9 for Command 18 with a bad date. Faults: none.
  * To fill in data, pass 255 zeros: the fields then say where each value goes, and `taken` how long the data are. */
 hart_reading hart_read_request(uint8_t command, const uint8_t *data, hart_size data_len, hart_field *fields, hart_size fields_len);
 
@@ -209,9 +212,9 @@ hart_reading hart_read_request(uint8_t command, const uint8_t *data, hart_size d
  * set, the command is unknown, or the code is 0 and the data do not fit the command. */
 hart_reading hart_read_reply(uint8_t command, const uint8_t *payload, hart_size payload_len, hart_field *fields, hart_size fields_len);
 
-/* Packs a text into all bytes of `packed`, 6, 12 or 24 of them, four characters in three bytes. Fills it up with spaces to 8, 16 or 32
- * characters. Returns packed_len. Faults: HART_BAD_LENGTH (of `packed`), HART_TOO_LONG, HART_BAD_CHARACTER (outside 0x20 to 0x5F: lower
- * case is no packed text). */
+/* Packs a text into all bytes of `packed`, which has 6, 12 or 24 bytes: four characters in three bytes. Fills the text up with spaces to
+ * 8, 16 or 32 characters. Returns packed_len. Faults: HART_BAD_LENGTH (of `packed`), HART_TOO_LONG, HART_BAD_CHARACTER (outside 0x20 to
+ * 0x5F, such as lower case). */
 hart_outcome hart_pack_text(const uint8_t *text, hart_size text_len, uint8_t *packed, hart_size packed_len);
 
 /* Writes the 8, 16 or 32 characters of packed text to the front of `text`, without a final 0. Returns their number.
@@ -225,6 +228,35 @@ hart_outcome hart_command_name(uint8_t command, uint8_t *output, hart_size outpu
 /* Writes the name of a field, without a final 0. hart_read_reply or hart_read_request writes this field at `index`. Returns its length.
  * Faults: HART_UNKNOWN if there is no such command or field, HART_NO_ROOM. */
 hart_outcome hart_field_name(bool is_reply, uint8_t command, hart_size index, uint8_t *output, hart_size output_len);
+
+/* The next four calls write a name, too, without a final 0, and return its length; 64 bytes are enough for any name. They write the names
+ * that the program `hart explain` shows. Faults: HART_UNKNOWN if there is no name, HART_NO_ROOM. */
+
+/* The name of a unit, such as "degrees Celsius" for 32. A code that means different units in different classes of variables has no name. */
+hart_outcome hart_unit_name(uint8_t unit, uint8_t *output, hart_size output_len);
+
+/* The name of a response code of a command, such as "invalid date" for code 9 of Command 18. The code is payload[0] of a reply, if bit 0x80
+ * of this byte is clear. */
+hart_outcome hart_code_name(uint8_t command, uint8_t code, uint8_t *output, hart_size output_len);
+
+/* The name of a bit of the device status: 0x80, 0x40, and so on to 0x01. The status is payload[1] of a reply with a response code. */
+hart_outcome hart_status_name(uint8_t bit, uint8_t *output, hart_size output_len);
+
+/* The name of a communication fault: bit 0x40, 0x20, 0x10, 0x08 or 0x02 of payload[0] of a reply, if bit 0x80 of this byte is set. */
+hart_outcome hart_comm_fault_name(uint8_t bit, uint8_t *output, hart_size output_len);
+
+/* The styles of explanations, and their greatest length. */
+enum {
+    HART_WORDS = 0,            /* in words: a line for the header, and a line for each thing that the message says */
+    HART_JSON = 1,             /* one object of JSON in one line, as docs/explain.schema.json describes it */
+    HART_EXPLAINED_LEN = 16384 /* room for the explanation of any message */
+};
+
+/* Writes what a message means to the front of `output`, without a final 0, and returns its length. These are the lines that the program
+ * `hart explain` writes of this message if it hears no other one: in JSON a request has `sending` 1, and a reply `answers` null. The last
+ * byte is a line feed. The places are `start` and `stop` of the frame.
+ * Faults: HART_BAD_ADDRESS, HART_LONG_EXPANSION, HART_TOO_SHORT_REPLY, HART_BAD_STYLE, HART_NO_ROOM. */
+hart_outcome hart_explain(uint8_t style, const hart_frame *frame, uint8_t *output, hart_size output_len);
 
 /* Devices. Each call of hart_hear gets the identity of the device and its process values. The caller keeps the state of the device in a
  * hart_device, which can be stored as bytes. A float is four bytes, the most significant first. docs/COMMANDS.md names each field. */
@@ -331,21 +363,21 @@ hart_outcome hart_hear(const hart_identity *identity, const hart_process *proces
 
 /* The result of hart_hear_own. */
 typedef struct hart_hearing {
-    hart_size len; /* the length of the reply; 0 if the device is silent, if the request is the caller's, or if there is a fault */
+    hart_size len; /* the length of the reply; 0 if the device is silent, if is_own is true, or if there is a fault */
     bool is_own;   /* true if `asked` is a request that the caller carries out */
     uint8_t fault; /* HART_OK, or why nothing was done */
 } hart_hearing;
 
-/* Like hart_hear, for a device that knows further commands: those in `own`. If the delivery is a request to the device's unique address with
- * such a command, which hart_command_name does not know, writes this request to `asked` and changes nothing else. The caller carries it out,
- * and calls hart_answer. Faults: those of hart_hear. */
+/* Like hart_hear, for a device that knows further commands: those in `own`. If the delivery is a request to the device's unique address
+ * with such a command, which hart_command_name does not know, writes this request to `asked` and changes nothing else. The caller carries
+ * it out, and calls hart_answer. Faults: those of hart_hear. */
 hart_hearing hart_hear_own(const hart_identity *identity, const hart_process *process, const uint8_t *own, hart_size own_len,
                            const hart_char *heard, hart_size heard_len, hart_device *device, hart_frame *asked, uint8_t *reply,
                            hart_size reply_len);
 
-/* Writes the reply to such a request, a whole message, to the front of `reply`, and updates the device: this response code, the device
- * status for the asking master, and at most 253 bytes of data. Clears the cold start bit of this master. If `is_write` is true, counts a
- * configuration change, and sets the configuration-changed bits of both masters, also in this reply. Returns the length of the reply.
+/* Writes the reply to such a request, a whole message, to the front of `reply`: this response code, the device status for the asking
+ * master, and at most 253 bytes of data. Updates the device: clears the cold start bit of this master and, if `is_write` is true, counts a
+ * configuration change and sets the configuration-changed bits of both masters, also in this reply. Returns the length of the reply.
  * Faults: those of hart_hear for the identity, the device and the process; HART_BAD_ADDRESS, HART_LONG_EXPANSION, HART_TOO_SHORT_REPLY;
  * HART_NO_REQUEST (not a request that hart_hear_own hands out); HART_BAD_CODE; HART_TOO_LONG; HART_NO_ROOM. A fault changes nothing. */
 hart_outcome hart_answer(const hart_identity *identity, const hart_process *process, const hart_frame *asked, uint8_t code, bool is_write,
@@ -401,11 +433,11 @@ typedef struct hart_unique {
 } hart_unique;
 
 /* Returns the unique address in the payload of a reply to Command 0, 11 or 21 with code 0; the payload begins with its status bytes. For
- * any other payload, or if the address is broadcast, no address is given. No fault. */
+ * any other payload, or if the address is broadcast, no address is given. Faults: none. */
 hart_unique hart_unique_of(uint8_t command, const uint8_t *payload, hart_size payload_len);
 
-/* Masters. The caller keeps the state of a master in a hart_master, one for each line, and decides when to send and what time has passed. A
- * call changes nothing if it has a fault. */
+/* Masters. The caller keeps the state of a master in a hart_master, one for each line, decides when to send, and says how much time has
+ * passed. A call changes nothing if it has a fault. */
 
 /* What a master has in hand. */
 enum {
@@ -422,7 +454,7 @@ typedef struct hart_master {
     uint8_t reply_limit; /* how many character times a reply is awaited, at least 1 */
     uint8_t state;       /* HART_IDLE to HART_ANSWERED */
     uint8_t sendings;    /* how often the request in hand was sent, at most retries + 1 */
-    uint8_t waited;      /* HART_AWAITING: the character times since it was sent, where 255 is 255 or more */
+    uint8_t waited;      /* in the state HART_AWAITING, the character times since the request was sent; 255 means 255 or more */
 } hart_master;
 
 /* What became of the request in hand. */
@@ -436,14 +468,14 @@ enum {
 /* The result of a call that may end a request. */
 typedef struct hart_event {
     uint8_t event;    /* HART_EVENT_NONE to HART_EVENT_GIVEN_UP */
-    uint8_t sendings; /* how often the request was sent that was answered or given up; otherwise 0 */
+    uint8_t sendings; /* if the request was answered or given up, how often it was sent; otherwise 0 */
     uint8_t fault;    /* HART_OK, or why nothing was done */
 } hart_event;
 
-/* Makes a master with no request in hand, and returns its fault. Fault: HART_BAD_MASTER. */
+/* Makes a master with no request in hand. Returns HART_OK or the fault. Fault: HART_BAD_MASTER. */
 uint8_t hart_new_master(uint8_t retries, uint8_t reply_limit, hart_master *master);
 
-/* Takes in hand a request of any command, known or not, and returns its fault. Faults: HART_BAD_MASTER; HART_BAD_ADDRESS,
+/* Takes in hand a request of any command, known or not. Returns HART_OK or the fault. Faults: HART_BAD_MASTER; HART_BAD_ADDRESS,
  * HART_LONG_EXPANSION, HART_TOO_SHORT_REPLY; HART_NO_REQUEST (a reply, expansion bytes or the burst bit); HART_PENDING (the state is
  * HART_DUE or HART_AWAITING); HART_WRONG_ADDRESS (a known command that may not be sent to this address). */
 uint8_t hart_submit(const hart_frame *request, hart_master *master);
@@ -452,13 +484,14 @@ uint8_t hart_submit(const hart_frame *request, hart_master *master);
  * message, or 0 if no request is due; 287 bytes are enough. Faults: HART_BAD_MASTER, HART_BAD_PREAMBLE, HART_NO_ROOM. */
 hart_outcome hart_send(uint8_t preambles, hart_master *master, uint8_t *output, hart_size output_len);
 
-/* Receives a frame that was found. HART_EVENT_ANSWERED if a reply is awaited and this is it: hart_matches holds, payload[0] has not bit
- * 0x80, and the payload of a known command is read by hart_read_reply. Faults: HART_BAD_MASTER; HART_BAD_ADDRESS, HART_LONG_EXPANSION,
- * HART_TOO_SHORT_REPLY. */
+/* Receives a frame that was found. The event is HART_EVENT_ANSWERED if the frame is the awaited reply: hart_matches says so, bit 0x80 of
+ * payload[0] is clear, and for a known command hart_read_reply can read the payload. Faults: HART_BAD_MASTER; HART_BAD_ADDRESS,
+ * HART_LONG_EXPANSION, HART_TOO_SHORT_REPLY. */
 hart_event hart_receive(const hart_frame *frame, hart_master *master);
 
-/* Lets character times pass, 9.167 ms each at 1,200 bits a second; 255 means 255 or more. If a reply is awaited and reply_limit of them
- * have passed since the request was sent, the event is HART_EVENT_RETRY or HART_EVENT_GIVEN_UP. Fault: HART_BAD_MASTER. */
+/* Lets character times of silence pass, 9.167 ms each at 1,200 bits a second; 255 means 255 or more. Count none while characters come in,
+ * since a reply can be longer than reply_limit. If a reply is awaited and reply_limit character times have passed since the request was
+ * sent, the event is HART_EVENT_RETRY or HART_EVENT_GIVEN_UP. Fault: HART_BAD_MASTER. */
 hart_event hart_tick(uint8_t character_times, hart_master *master);
 
 /* Ends the wait for a reply at once, or repeats a request that was answered, as after communication faults or response code 32 (busy):

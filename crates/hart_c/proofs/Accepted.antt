@@ -1,4 +1,4 @@
--- What a master accepts has one outcome.
+-- What a master accepts is determined by the request and the delivery.
 use Rattle.std.proofs.Common.{◌≡◌, List, [], ◌∷◌, Err, arith, refl}
 use Rattle.hart_values.specs.declared.{address.Address.Address, master_id.MasterId.MasterId}
 use Rattle.hart_frame.specs.declared.scan.first.LoneFrame.{LoneFrame}
@@ -42,7 +42,7 @@ not_judged id address request frame reasons.CommunicationFaults reply why is =
     communication_faults_are_no_reply-frame id address request frame reply why.1 is
 not_judged id address request frame reasons.UnfitData reply why is = let read = is.read in let none = why.2 in cc
 
--- a frame is not accepted for one reason
+-- a frame is not accepted for only one reason
 pub one_judged : (id : MasterId) (address : Address) (request : Request) (frame : FrameParts) (reason another : Unaccepted)
     → IsJudged id address request frame (Err reason) → IsJudged id address request frame (Err another) → reason ≡ another
 one_judged id address request frame reason another why because = grind arith
@@ -58,14 +58,14 @@ not_accepted id address request chars reason reply (NoFrame, is, why) accepted =
 not_accepted id address request chars reason reply (Several, is, why) accepted =
     let same = one_lone chars Several (Alone accepted.found) is accepted.alone in absurd cc
 
--- the frames of a delivery that is not accepted have one reason
+-- if two findings about the frames of a delivery are equal, they give the same reason why nothing is accepted
 same_reason : (id : MasterId) (address : Address) (request : Request) (frames other : LoneFrame) (reason another : Unaccepted)
     → frames ≡ other → IsReason id address request frames reason → IsReason id address request other another → reason ≡ another
 same_reason id address request (Alone found) (Alone same) reason another is why because =
     grind (arith, one_judged id address request found.frame reason another)
 same_reason id address request frames other reason another is why because = grind arith
 
--- a delivery is not accepted for one reason
+-- a delivery is not accepted for only one reason
 pub one_reason : (id : MasterId) (address : Address) (request : Request) (chars : List Character) (reason another : Unaccepted)
     → IsUnaccepted id address request chars reason → IsUnaccepted id address request chars another → reason ≡ another
 one_reason id address request chars reason another (frames, is, why) (other, again, because) =

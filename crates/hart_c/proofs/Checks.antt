@@ -19,7 +19,7 @@ needs-sound good fault = record { one = λ told other why because. why.1 ∙ sym
 pub refused_if-sound : (bad : Type 0) (fault : Fault) → IsSound (refused_if bad fault)
 refused_if-sound bad fault = record { one = λ told other why because. why.1 ∙ sym because.1; not_both = λ told is why. is why.0 }
 
--- sound checks have at most one first fault
+-- a list of sound checks has at most one first fault
 pub first_one : (checks : List Check) → AreSound checks → (fault other : Fault) → IsFirstOf checks fault → IsFirstOf checks other
     → fault ≡ other
 first_one [] sound fault other why because = absurd why
@@ -28,7 +28,7 @@ first_one (check ∷ checks) sound fault other (inl why) (inr because) = absurd 
 first_one (check ∷ checks) sound fault other (inr why) (inl because) = absurd (sound.0.not_both other why.0 because)
 first_one (check ∷ checks) sound fault other (inr why) (inr because) = first_one checks sound.1 fault other why.1 because.1
 
--- sound checks have no first fault if a call passes them all
+-- a list of sound checks has no first fault if a call passes them all
 pub first_none : (checks : List Check) → AreSound checks → AllPass checks → (fault : Fault) → IsFirstOf checks fault → ⊥
 first_none [] sound passed fault why = why
 first_none (check ∷ checks) sound passed fault (inl why) = sound.0.not_both fault passed.0 why
@@ -45,13 +45,13 @@ pub first_after : (checks others : List Check) (fault : Fault) → AllPass check
 first_after [] others fault passed why = why
 first_after (check ∷ checks) others fault passed why = inr (passed.0, first_after checks others fault passed.1 why)
 
--- what follows from two facts about a number of bytes holds if both hold unless there is a fault
+-- if two facts are true of the number of bytes when there is no fault, so is what follows from them
 pub if_ok : (result : Result ℕ Fault) (P Q R : ℕ → Type 0) → ((len : ℕ) → P len → Q len → R len) → IfOk result P → IfOk result Q
     → IfOk result R
 if_ok (Ok len) P Q R follows first second = follows len first second
 if_ok (Err fault) P Q R follows first second = tt
 
--- what follows from a fact about a fault holds if the fact holds unless there is none
+-- if a fact is true of the fault when there is one, so is what follows from it
 pub if_err : (result : Result ℕ Fault) (P Q : Fault → Type 0) → ((fault : Fault) → P fault → Q fault) → IfErr result P → IfErr result Q
 if_err (Ok len) P Q follows refused = tt
 if_err (Err fault) P Q follows refused = follows fault refused

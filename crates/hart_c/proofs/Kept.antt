@@ -1,4 +1,4 @@
--- What is kept of a device.
+-- What the caller keeps of a device.
 use Rattle.std.proofs.Common.{◌≡◌, ◌≢◌, refl, ◌∙◌, ap, arith, length, sym, take, ℕ, List}
 use Rattle.std.proofs.Math.Seq.{take-length}
 use Rattle.std.proofs.lemmas.Grind.{common_steps}

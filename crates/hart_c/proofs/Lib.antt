@@ -5,3 +5,4 @@ mod Masters
 mod Said
 mod Marked
 mod Shown
+mod Explained

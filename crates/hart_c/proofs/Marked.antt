@@ -1,4 +1,4 @@
--- The bytes of a port are read as marks in one way.
+-- The bytes of a port can be read as marks in only one way.
 use Rattle.std.proofs.Common.{◌≡◌, ◌≤◌, ◌<◌, ◌-◌, ◌++◌, ◌∙◌, append_assoc, append-nil, arith, refl, sym, ℕ, List, [], ◌∷◌, drop, length}
 use Rattle.std.proofs.Common.{take}
 use Rattle.std.proofs.lemmas.Grind.{common_steps}
@@ -7,20 +7,20 @@ use Rattle.hart_c.specs.Marks.{AreMarked, IsCut, IsMarked, Unmarks, next, none}
 use Rattle.hart_c.specs.declared.find.HartChar.{HartChar}
 use Rattle.hart_c.specs.declared.mark.HartUnmarked.{HartUnmarked}
 
--- the same as `AreMarked`, beginning with the first mark
+-- like `AreMarked`, but built from the first mark on
 data AreRead : List ℕ → List HartChar → Type 0 where
   end : AreRead [] []
   first : (mark bytes : List ℕ) (char : HartChar) (chars : List HartChar) → IsMarked mark char → AreRead bytes chars
       → AreRead (mark ++ bytes) (char ∷ chars)
 
--- one more mark at the end
+-- if bytes are read as characters, they still are with one more mark at the end
 read_last : (bytes mark : List ℕ) (chars : List HartChar) (char : HartChar) → AreRead bytes chars → IsMarked mark char
     → AreRead (bytes ++ mark) (chars ++ char ∷ [])
 read_last bytes mark chars char end is = rw append-nil at (first mark [] char [] is end)
 read_last bytes mark chars char (first front others head more begins are) is =
     rw append_assoc (first front (others ++ mark) head (more ++ char ∷ []) begins (read_last others mark more char are is))
 
--- marks that are read up to the last one are read from the first one on
+-- marks that are read one by one up to the last can be read from the first one on
 read_of : (bytes : List ℕ) (chars : List HartChar) → AreMarked bytes chars → AreRead bytes chars
 read_of bytes chars none = end
 read_of bytes chars (next before mark heard char are is) = read_last before mark heard char (read_of before heard are) is
@@ -36,7 +36,7 @@ not_cut (a ∷ b ∷ []) (c ∷ rest) char is cut = cut
 not_cut (a ∷ b ∷ c ∷ []) rest char is cut = cut
 not_cut (a ∷ b ∷ c ∷ d ∷ more) rest char is cut = is
 
--- bytes begin with one mark, which has one character
+-- bytes begin with at most one mark, and this mark has one character
 one_mark : (mark other rest others : List ℕ) (char another : HartChar) → IsMarked mark char → IsMarked other another
     → mark ++ rest ≡ other ++ others → (mark ≡ other) × (char ≡ another) × (rest ≡ others)
 one_mark [] other rest others char another is again same = absurd is
@@ -53,7 +53,7 @@ one_mark (a ∷ b ∷ c ∷ []) (x ∷ []) rest others char another is again sam
 one_mark (a ∷ b ∷ c ∷ []) (x ∷ y ∷ []) rest others char another is again same = grind arith
 one_mark (a ∷ b ∷ c ∷ []) (x ∷ y ∷ z ∷ []) rest others char another is again same = grind arith
 
--- the same bytes are read in one way, if as many characters are read as there is room for, or only a cut mark is left
+-- the same bytes are read in only one way, if reading stops because there is no more room or only a cut mark is left
 one_reading : (room : ℕ) (bytes others rest later : List ℕ) (chars heard : List HartChar) → AreRead bytes chars → AreRead others heard
     → bytes ++ rest ≡ others ++ later → length chars ≤ room → length heard ≤ room → (length chars < room → IsCut rest)
     → (length heard < room → IsCut later) → (bytes ≡ others) × (chars ≡ heard)
@@ -72,7 +72,7 @@ one_reading room bytes others rest later chars heard (first mark more char tail 
     (grind (arith, common_steps)) (λ less. cut (grind (arith, common_steps))) (λ less. again_cut (grind (arith, common_steps))) in
     grind (arith, one.0, one.1, others_one.0, others_one.1)
 
--- a port is read in one way
+-- the bytes of a port are read in only one way
 pub one_unmarked : (bytes : List ℕ) (before after other : List HartChar) (told another : HartUnmarked) → Unmarks bytes before after told
     → Unmarks bytes before other another → (told ≡ another) × (after ≡ other)
 one_unmarked bytes before after other told another is again =

@@ -1,4 +1,4 @@
--- What is kept of a master.
+-- What the caller keeps of a master.
 use Rattle.std.proofs.Common.{◌≡◌, ◌⊎◌, inl, inr, IsTrue, true, false, Ok, Err, arith, refl, rules}
 use Rattle.hart_frame.specs.wire.FrameParts.{FrameParts}
 use Rattle.hart_master.specs.FrameMaster.{FrameMasterState, IsReceived, hand_submitted, is_idle, result_submitted}
@@ -22,7 +22,7 @@ use Rattle.hart_c.proofs.Checks.{first_none, needs-sound}
 pub no_frame_numbers : (frame : HartFrame) (fault : Fault) → IsFirstOf (frame_checks frame) fault → IsFrame frame → ⊥
 no_frame_numbers frame fault why is = first_none (frame_checks frame) (search (rules, needs-sound)) is fault why
 
--- numbers have one meaning
+-- the numbers of a kept master describe at most one thing in hand
 pub one_hand : (master : HartMaster) (hand other : FrameHand) → IsInHand master hand → IsInHand master other → hand ≡ other
 one_hand master hand other is again = grind arith
 
@@ -88,7 +88,7 @@ submit_taken request before after state frame same is passed said written =
       record { was = is; is = grind (arith, written, same); kept = rw (written_hand, due) kept },
     )
 
--- a frame is received in one way
+-- receiving a frame gives only one event
 pub one_received : (hand : FrameHand) (frame : FrameParts) (event other : FrameEvent) → IsReceived hand frame event
     → IsReceived hand frame other → event ≡ other
 one_received hand frame event other is again = grind arith

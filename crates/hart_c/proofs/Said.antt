@@ -1,4 +1,4 @@
--- At most one message is written, and a call has one outcome.
+-- At most one message is written for an answer, and a call has only one outcome.
 use Rattle.std.proofs.Common.{◌≡◌, ◌⊎◌, ℕ, List, Option, None, Some, arith, length, sym, ◌∙◌}
 use Rattle.std.proofs.lemmas.Grind.{common_steps}
 use Rattle.hart_frame.specs.wire.FrameParts.{FrameParts}
@@ -11,7 +11,7 @@ use Rattle.hart_c.specs.Messages.{HasNoRoom, IsWritten}
 pub one_outcome : {A B C D R : Type 0} → (A → C → R) → (A → D → ⊥) → (B → C → ⊥) → (B → D → R) → A ⊎ B → C ⊎ D → R
 one_outcome both free none one is again = grind arith
 
--- a frame has one message for each number of preamble bytes
+-- a frame has only one message for each number of preamble bytes
 pub one_message : (frame : FrameParts) (preambles : ℕ) (message other : List ℕ) → IsMessage frame preambles message
     → IsMessage frame preambles other → message ≡ other
 one_message frame preambles message other is again = grind (arith, bodies_are_unambiguous-one_body frame)

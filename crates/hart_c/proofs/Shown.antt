@@ -1,8 +1,7 @@
 -- Frames that are found can be written, and how many of them a delivery has.
-use Rattle.std.proofs.Common.{◌≡◌, ◌≤◌, ◌<◌, ◌++◌, Bool, true, false, ℕ, List, [], ◌∷◌, All, arith, drop, length, map, refl, rules}
+use Rattle.std.proofs.Common.{◌≡◌, ◌≤◌, ◌<◌, ◌++◌, Bool, true, false, ℕ, List, [], ◌∷◌, All, arith, drop, length, map, refl}
 use Rattle.std.proofs.Common.{slice_index_or, take}
 use Rattle.std.proofs.Common.{inl, inr, length-drop}
-use Rattle.std.proofs.lemmas.Grind.{common_steps}
 use Rattle.std.proofs.lemmas.List.{append-nil, length-take-le}
 use Rattle.std.proofs.lemmas.List.Elements.{All-cons, All-head, All-nil}
 use Rattle.hart_values.specs.address.AddressBytes.{IsAddressBytes}
@@ -38,24 +37,24 @@ all_have chars from [] are = All-nil HasBody
 all_have chars from (found ∷ later) (first start head others is rest) =
     All-cons HasBody found later (is.stands.body, is.stands.is_body) (all_have chars found.stop later rest)
 
--- a frame is left if a search of two shows fewer
+-- if a search with room for two frames shows fewer, there was room for one more
 less_than_two : (count : ℕ) (before after : List HartFrame) → length before ≡ 2 → count < 2 → drop count after ≡ drop count before
     → count < length after
 less_than_two count before after two less same = grind (arith, length-drop count after, length-drop count before)
 
--- a search that shows all that it can shows all frames
+-- if a search shows fewer frames than it has room for, it shows all frames
 all_found : (chars : List Character) (before after : List HartFrame) (told : HartSearch) → Finds chars true before after told
     → told.count < length after → AreFrames chars 0 (map found_in (take told.count after))
 all_found chars before after told finds less = next_frames_are_all-all chars true _ (rw (finds.all less refl) at finds.next)
 
--- a search of two that shows none finds that there is no frame
+-- if a search with room for two frames shows none, there is no frame
 pub found_none : (chars : List Character) (before after : List HartFrame) (told : HartSearch) → length before ≡ 2
     → Finds chars true before after told → told.count ≡ 0 → AreFrames chars 0 []
 found_none chars before after told two finds none =
     let less = less_than_two told.count before after two (grind (arith, none)) finds.untouched in
     rw none at (all_found chars before after told finds less)
 
--- a search of two that shows one finds the only frame
+-- if a search with room for two frames shows one, it is the only frame
 pub found_one : (chars : List Character) (before after : List HartFrame) (told : HartSearch) (other : HartFrame) → length before ≡ 2
     → Finds chars true before after told → told.count ≡ 1
     → AreFrames chars 0 (found_in (slice_index_or after 0 other) ∷ []) × IsTidy (slice_index_or after 0 other)
@@ -68,14 +67,14 @@ found_one chars before (frame ∷ more) told other two finds one =
     let body = All-head HasBody (found_in frame) [] (all_have chars 0 (found_in frame ∷ []) alone) in
     (alone, tidy, shown frame body.0 body.1 tidy)
 
--- two frames or more
+-- a list of at least two frames, followed by others, has several frames
 several : (chars : List Character) (frames : List HartFrame) (others : List Found) → 2 ≤ length frames
     → AreFrames chars 0 (map found_in frames ++ others) → IsLone chars Several
 several chars [] others two are = absurd (grind arith)
 several chars (one ∷ []) others two are = absurd (grind arith)
 several chars (one ∷ other ∷ more) others two are = (found_in one, found_in other, map found_in more ++ others, are)
 
--- a search of two that shows two finds that there are several
+-- if a search with room for two frames shows two, there are several
 pub found_several : (chars : List Character) (before after : List HartFrame) (told : HartSearch) → Finds chars true before after told
     → 2 ≤ told.count → IsLone chars Several
 found_several chars before after told finds two =
@@ -84,7 +83,7 @@ found_several chars before after told finds two =
     rw append-nil at (finds.next.leads [] rest.0 (λ closed. refl) (rw append-nil rest.1)) in
     several chars (take told.count after) rest.0 (grind (arith, length-take-le told.count after finds.within)) all
 
--- a search of characters with fault bits only finds
+-- a search of characters whose `faults` are fault bits only returns what `Finds` says
 pub finds_of : (heard : List HartChar) (before after : List HartFrame) (told : HartSearch) → HaveFaultBits heard
     → SearchOutcome heard true before after told → Finds (map char_of heard) true before after told
 finds_of heard before after told bits (inl is) = is.1

@@ -20,8 +20,8 @@ use Rattle.hart_c.specs.declared.{fault.HartOutcome.HartOutcome, identity.HartId
 abbrev pub image_in : HartDevice → List ℕ
 image_in device = take device.image_len device.image
 
--- A kept device with this identity has this state: `image_len` is at most 86, the kept image is an image of the state, and the kept device
--- and the state have the same cold start bits.
+-- A kept device with this identity has this state. `image_len` is at most 86, the kept image is an image of the state, and both have the
+-- same cold start bits.
 pub record IsKept (parts : IdentityParts) (device : HartDevice) (state : DeviceState) : Type 0 where
   pub is_identity : AreIdentityParts parts
   pub identity : state.identity ≡ parts
@@ -29,7 +29,7 @@ pub record IsKept (parts : IdentityParts) (device : HartDevice) (state : DeviceS
   pub image : IsImageOf state (image_in device)
   pub cold_start : state.cold_start ≡ record { primary = device.primary_cold_start; secondary = device.secondary_cold_start }
 
--- What is kept of a state: its image, in version 2, and its cold start bits.
+-- What the caller keeps of a state: its image, in version 2, and its cold start bits.
 abbrev pub device_of : DeviceState → HartDevice
 device_of state = record {
   image = image_of state;
@@ -38,23 +38,23 @@ device_of state = record {
   secondary_cold_start = state.cold_start.secondary;
 }
 
--- The same device with write protection set or clear. The flags are the last byte of the image, and their bit 2 is write protection.
--- The bits above bit 2 become clear.
+-- A kept device with its write protection set or cleared. Write protection is bit 2 of the last byte of the image, the flags. The bits
+-- above bit 2 become 0.
 abbrev pub with_protection : Bool → HartDevice → HartDevice
 with_protection protected device =
     let last = device.image_len - 1 in
     record device { image = slice_set device.image last (slice_index device.image last % 4 + (if protected then 4 else 0)) }
 
--- The call writes what is kept of a new device with these registers. What is kept does not depend on the device's identity. If a register
--- would hold invalid bytes, the kept device is unchanged.
+-- The call writes to `device` what the caller keeps of a new device with these registers, and returns 86. What is written does not depend
+-- on the device's identity. If a register would hold invalid bytes, the call returns a fault, and `device` is unchanged.
 abbrev pub NewDeviceOutcome : HartRegisters → HartDevice → HartDevice → HartOutcome → Type 0
 NewDeviceOutcome given before after =
     Outcome (needs (AreValid (contents_of given)) (Device BadField) ∷ [])
     (λ len. (len ≡ 86) × (values : RegisterValues) × (values_of values ≡ contents_of given) × AreValid (contents_of given)
     × ((parts : IdentityParts) → after ≡ device_of (new_device parts values))) (after ≡ before) outcome_of
 
--- A device hears a delivery: the kept device has a state, the passed numbers describe a process, the delivery passes its checks, and it
--- brings the device a frame, a garbled request or no message.
+-- The conditions for a device to hear a delivery. The kept device has a state, and the `HartProcess` describes a process. The delivery
+-- passes its checks, and brings the device a frame, a garbled request or no message.
 pub record IsHearing (identity : HartIdentity) (process : HartProcess) (heard : List HartChar) (device : HartDevice) : Type 0 where
   pub state : DeviceState
   pub measured : Process
@@ -79,22 +79,22 @@ pub record Hears (identity : HartIdentity) (process : HartProcess) (heard : List
   pub kept : IsKept (parts_of identity) after (state_after_delivery hearing.state hearing.brought)
   pub silent : len ≡ 0 → state_after_delivery hearing.state hearing.brought ≡ hearing.state
 
--- First the identity is checked, then whether the image has at most 86 bytes, and then whether the kept device has a state.
+-- The checks of a kept device, in this order: the identity is in range; the image has at most 86 bytes; the kept device has a state.
 abbrev pub state_checks : HartIdentity → HartDevice → List Check
 state_checks identity device =
     needs_or (AreIdentityParts (parts_of identity)) (IsIdentityFault (parts_of identity)) Device
     ∷ needs (device.image_len ≤ 86) (Device BadLength)
     ∷ needs_or ((state : DeviceState) × IsKept (parts_of identity) device state) (IsImageFault (image_in device)) Device ∷ []
 
--- First the device is checked, then whether the process has one to four dynamic variables, then the characters, and then whether
--- the reply fits.
+-- The checks of `hart_hear`, in this order: the checks of the device; the process has one to four dynamic variables; the checks of the
+-- characters; the reply fits.
 abbrev pub hear_checks : HartIdentity → HartProcess → List HartChar → HartDevice → ℕ → List Check
 hear_checks identity process heard device room =
     state_checks identity device ++ needs (HasVariables process) BadVariables
     ∷ heard_checks heard ++ refused_if ((hearing : IsHearing identity process heard device)
     × HasNoRoom (IsSaid (answer_to hearing.state hearing.measured hearing.brought) identity.response_preambles) room) NoRoom ∷ []
 
--- Either the device has heard the delivery, and the call returns the length of the reply; or the call returns a fault, and the kept device
+-- Either the device has heard the delivery, and the call returns the length of the reply. Or the call returns a fault, and the kept device
 -- and the output are unchanged.
 abbrev pub HearOutcome : HartIdentity → HartProcess → List HartChar → HartDevice → HartDevice → List ℕ → List ℕ → HartOutcome → Type 0
 HearOutcome identity process heard before after old new =

@@ -2,6 +2,7 @@ pub mod Faults
 pub mod Numbers
 pub mod Messages
 pub mod Texts
+pub mod Explain
 pub mod Find
 pub mod Marks
 pub mod Data

@@ -1,4 +1,4 @@
--- What the numbers for C mean: a frame, and the identity, the process and the registers of a device (implementation choice).
+-- What the structs of callers in C mean: a frame, and the identity, the process and the registers of a device (implementation choice).
 use Rattle.std.specs.Prelude.{◌≡◌, ◌≤◌, if◌then◌else◌, ℕ, Bool, true, false, List, map, take, [], ◌∷◌}
 use Rattle.hart_values.specs.declared.address.Address.TheVariants.{Polling, Unique}
 use Rattle.hart_values.specs.declared.master_id.MasterId.TheVariants.{Primary, Secondary}
@@ -12,12 +12,12 @@ use Rattle.hart_c.specs.declared.frame.HartFrame.{HartFrame}
 use Rattle.hart_c.specs.declared.{identity.HartIdentity.HartIdentity, process.HartOutput.HartOutput, registers.HartRegisters.HartRegisters}
 use Rattle.hart_c.specs.declared.{process.HartProcess.HartProcess, process.HartSensor.HartSensor, process.HartVariable.HartVariable}
 
--- An address is a unique address with two numbers, or a polling address.
+-- The address in a `HartFrame`: for `true` its unique address, for `false` its polling address.
 abbrev pub address_of : Bool → HartFrame → Address
 address_of true frame = Unique (record { expanded_type = frame.expanded_type; device_id = frame.device_id })
 address_of false frame = Polling frame.polling_address
 
--- The frame that the numbers describe: a reply is an ACK, and any other frame an STX.
+-- The frame that a `HartFrame` describes: a reply is an ACK, and any other frame an STX.
 abbrev pub frame_in : HartFrame → FrameParts
 frame_in frame = record {
   kind = if frame.is_reply then Ack else Stx;
@@ -29,17 +29,17 @@ frame_in frame = record {
   payload = take frame.payload_len frame.payload;
 }
 
--- The frame that the numbers describe, and where it stands.
+-- The frame that a `HartFrame` describes, and where it stands.
 abbrev pub found_in : HartFrame → Found
 found_in frame = record { start = frame.start; stop = frame.stop; frame = frame_in frame }
 
--- Numbers are tidy if they have at most three expansion bytes and if the numbers of the unused kind of address are 0.
+-- A `HartFrame` is tidy if there are at most three expansion bytes and the fields of the unused kind of address are 0.
 pub record IsTidy (frame : HartFrame) : Type 0 where
   pub expansion : frame.expansion_len ≤ 3
   pub polling : frame.is_unique ≡ true → frame.polling_address ≡ 0
   pub unique : frame.is_unique ≡ false → (frame.expanded_type ≡ 0) × (frame.device_id ≡ 0)
 
--- The parts of the identity that the numbers describe.
+-- The parts of the identity that a `HartIdentity` describes.
 abbrev pub parts_of : HartIdentity → IdentityParts
 parts_of identity = record {
   expanded_device_type = identity.expanded_device_type;
@@ -57,16 +57,16 @@ parts_of identity = record {
   device_profile = identity.device_profile;
 }
 
--- A float is its bytes.
+-- The value of a float, made of its four bytes.
 abbrev pub float_of : List ℕ → Bits32
 float_of bytes = record { 0 = bytes }
 
--- The variable that the numbers describe.
+-- The variable that a `HartVariable` describes.
 abbrev pub variable_of : HartVariable → ProcessVariable
 variable_of given =
     record { classification = given.classification; unit = given.unit; value = float_of given.value; status = given.status }
 
--- The sensor that the numbers describe.
+-- The sensor that a `HartSensor` describes.
 abbrev pub sensor_of : HartSensor → SensorContent
 sensor_of given = record {
   serial_number = given.serial_number;
@@ -76,7 +76,7 @@ sensor_of given = record {
   minimum_span = float_of given.minimum_span;
 }
 
--- The loop current output that the numbers describe.
+-- The loop current output that a `HartOutput` describes.
 abbrev pub output_of : HartOutput → OutputValues
 output_of given = record {
   alarm_code = given.alarm_code;
@@ -92,7 +92,7 @@ output_of given = record {
 abbrev pub HasVariables : HartProcess → Type 0
 HasVariables given = (1 ≤ given.variables_len) × (given.variables_len ≤ 4)
 
--- The numbers describe a process if they have exactly the same dynamic variables as the process, and the same values for its other parts.
+-- A `HartProcess` describes a process: both have the same dynamic variables, and the same values of all other parts.
 pub record IsProcessOf (given : HartProcess) (process : Process) : Type 0 where
   pub loop_current : process.loop_current ≡ float_of given.loop_current
   pub percent_of_range : process.percent_of_range ≡ float_of given.percent_of_range
@@ -104,7 +104,7 @@ pub record IsProcessOf (given : HartProcess) (process : Process) : Type 0 where
   pub sensor : process.sensor ≡ sensor_of given.sensor
   pub output : process.output ≡ output_of given.output
 
--- Each register holds the bytes of its numbers; the polling address and the loop current mode have one byte each.
+-- Each register holds the bytes of its field in `HartRegisters`; the polling address and the loop current mode have one byte each.
 abbrev pub contents_of : HartRegisters → Contents
 contents_of given = record {
   polling = given.polling_address ∷ [];

@@ -1,4 +1,5 @@
--- A device with commands of its maker's own, for a caller in C (implementation choice).
+-- A device with commands of its maker's own, for a caller in C (implementation choice). A maker's own command is a command that is in no
+-- table of this repository.
 use Rattle.std.specs.Prelude.{◌≡◌, ◌≤◌, ◌<◌, ◌⊎◌, ◌++◌, ◌==◌, ◌&&◌, ℕ, Bool, IsTrue, true, false, List, [], ◌∷◌, Some, length, map}
 use Rattle.std.specs.List.{list_any}
 use Rattle.hart_frame.specs.wire.FrameParts.{FrameParts}
@@ -16,19 +17,20 @@ use Rattle.hart_c.specs.declared.{device.HartDevice.HartDevice, fault.HartOutcom
 use Rattle.hart_c.specs.declared.{frame.HartFrame.HartFrame, identity.HartIdentity.HartIdentity, own.HartHearing.HartHearing}
 use Rattle.hart_c.specs.declared.process.HartProcess.{HartProcess}
 
--- A frame asks a command that the maker lists: it asks a command of the maker's own, and the list has its number.
+-- Whether a frame asks for a command of the maker's own that is in the list `own`.
 abbrev pub asks_listed : DeviceState → List ℕ → FrameParts → Bool
 asks_listed state own frame = asks_own state frame && list_any (λ command. command == frame.command) own
 
--- A delivery asks a listed command if the device hears it, it has exactly one frame, which is shown, and this frame asks such a command.
+-- A delivery asks for a command of the list `own`: the device can hear the delivery, `asked` describes the only frame of the delivery, and
+-- this frame asks for such a command.
 pub record AsksOwn (identity : HartIdentity) (process : HartProcess) (own : List ℕ) (heard : List HartChar) (device : HartDevice)
     (asked : HartFrame) : Type 0 where
   pub hearing : IsHearing identity process heard device
   pub alone : AreFrames (map char_of heard) 0 (found_in asked ∷ [])
   pub asks : asks_listed hearing.state own (frame_in asked) ≡ true
 
--- Either the delivery asks a listed command: then its frame is shown, and nothing else changes. Or it asks no such command: then
--- the call does as `hart_hear` does, and the frame that was shown before is unchanged.
+-- If the delivery asks for a command of the list, its frame is written to the caller's `HartFrame`, and nothing else changes. Otherwise the
+-- call does as `hart_hear` does, and the `HartFrame` is unchanged.
 abbrev pub HearOwnOutcome : HartIdentity → HartProcess → List ℕ → List HartChar → HartDevice → HartDevice → HartFrame → HartFrame
     → List ℕ → List ℕ → HartHearing → Type 0
 HearOwnOutcome identity process own heard before after shown asked old new told =
@@ -37,7 +39,8 @@ HearOwnOutcome identity process own heard before after shown asked old new told 
     ⊎ (((frame : HartFrame) → AsksOwn identity process own heard before frame → ⊥) × (told.is_own ≡ false) × (asked ≡ shown)
     × HearOutcome identity process heard before after old new (record { len = told.len; fault = told.fault }))
 
--- A device answers a frame that asks a command of the maker's own: the kept device has a state, and the passed numbers describe a process.
+-- The conditions for a device to answer a frame. The kept device has a state, the `HartProcess` describes a process, the `HartFrame`
+-- describes a frame, and the frame asks for a command of the maker's own.
 pub record IsOwnAnswer (identity : HartIdentity) (process : HartProcess) (asked : HartFrame) (device : HartDevice) : Type 0 where
   pub state : DeviceState
   pub measured : Process
@@ -46,7 +49,7 @@ pub record IsOwnAnswer (identity : HartIdentity) (process : HartProcess) (asked 
   pub numbers : IsFrame asked
   pub asks : IsTrue (asks_own state (frame_in asked))
 
--- The message of the reply is written, and the device is then in the state after the command and the reply.
+-- The message of the reply is written. The device is then in the state after the command and after the reply.
 pub record AnswersOwn (identity : HartIdentity) (process : HartProcess) (asked : HartFrame) (code : ℕ) (is_write : Bool) (bytes : List ℕ)
     (before after : HartDevice) (old new : List ℕ) (len : ℕ) : Type 0 where
   pub answer : IsOwnAnswer identity process asked before
@@ -58,8 +61,8 @@ pub record AnswersOwn (identity : HartIdentity) (process : HartProcess) (asked :
   pub state : after ≡ device_of (after_reply (frame_in asked).master (after_own is_write answer.state))
   pub kept : IsKept (parts_of identity) after (after_reply (frame_in asked).master (after_own is_write answer.state))
 
--- It is checked whether the frame asks a command of the maker's own, then the code, then the number of data bytes, and then whether the
--- reply fits.
+-- The checks of an answer, in this order: the frame asks for a command of the maker's own; the code is at most 127; there are at most 253
+-- data bytes; the reply fits.
 abbrev pub own_checks : HartIdentity → HartProcess → HartFrame → ℕ → Bool → List ℕ → HartDevice → ℕ → List Check
 own_checks identity process asked code is_write bytes device room =
     needs (IsOwnAnswer identity process asked device) NoRequest
@@ -69,13 +72,14 @@ own_checks identity process asked code is_write bytes device room =
     (IsSaid (Some (own_reply (after_own is_write answer.state) answer.measured (frame_in asked) code bytes)) identity.response_preambles)
     room) NoRoom ∷ []
 
--- First the device is checked, then whether the process has one to four dynamic variables, then the frame, and then the answer.
+-- The checks of `hart_answer`, in this order: the checks of the device; the process has one to four dynamic variables; the checks of the
+-- frame; the checks of the answer.
 abbrev pub answer_checks : HartIdentity → HartProcess → HartFrame → ℕ → Bool → List ℕ → HartDevice → ℕ → List Check
 answer_checks identity process asked code is_write bytes device room =
     state_checks identity device ++ needs (HasVariables process) BadVariables
     ∷ frame_checks asked ++ own_checks identity process asked code is_write bytes device room
 
--- Either the device has answered, and the call returns the length of the reply; or the call returns a fault, and the kept device and the
+-- Either the device has answered, and the call returns the length of the reply. Or the call returns a fault, and the kept device and the
 -- output are unchanged.
 abbrev pub AnswerOutcome : HartIdentity → HartProcess → HartFrame → ℕ → Bool → List ℕ → HartDevice → HartDevice → List ℕ → List ℕ
     → HartOutcome → Type 0

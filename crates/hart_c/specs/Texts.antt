@@ -11,25 +11,28 @@ use Rattle.hart_c.specs.declared.fault.HartOutcome.{HartOutcome}
 abbrev pub padded : ℕ → List ℕ → List ℕ
 padded count text = text ++ replicate (count - length text) 0x20
 
--- First it is checked whether there are 6, 12 or 24 bytes for packed text, then whether the text fits, and then its characters.
+-- The checks of `hart_pack_text`, in this order: there are 6, 12 or 24 bytes for packed text; the text fits; each character of the text is
+-- one that packed text can have.
 abbrev pub pack_checks : List ℕ → ℕ → List Check
 pack_checks text size =
     needs (IsPackedSize size) (Device BadLength) ∷ needs (length text ≤ 4 * size / 3) TooLong ∷ needs (All IsCharacter text) BadCharacter
     ∷ []
 
--- Either the packed form of the text, filled up with spaces, takes all bytes; or the call returns a fault, and the bytes are unchanged.
+-- Either the text is filled up with spaces and packed into all bytes, and the call returns their number. Or the call returns a fault, and
+-- the bytes are unchanged.
 abbrev pub PackOutcome : List ℕ → List ℕ → List ℕ → HartOutcome → Type 0
 PackOutcome text before after =
     Outcome (pack_checks text (length before))
     (λ len. AllPass (pack_checks text (length before)) × (len ≡ length before) × IsPacked (padded (4 * length before / 3) text) after)
     (after ≡ before) outcome_of
 
--- First it is checked whether there are 6, 12 or 24 bytes, and then whether the text fits into the output.
+-- The checks of `hart_unpack_text`, in this order: there are 6, 12 or 24 bytes of packed text; its text fits into the output.
 abbrev pub unpack_checks : List ℕ → ℕ → List Check
 unpack_checks packed room =
     needs (IsPackedSize (length packed)) (Device BadLength) ∷ refused_if (HasNoRoom (λ text. IsPacked text packed) room) NoRoom ∷ []
 
--- Either the text is written whose packed form these bytes are, or the call returns a fault, and the output is unchanged.
+-- Either the text of the packed bytes is written, and the call returns its length. Or the call returns a fault, and the output is
+-- unchanged.
 abbrev pub UnpackOutcome : List ℕ → List ℕ → List ℕ → HartOutcome → Type 0
 UnpackOutcome packed before after =
     Outcome (unpack_checks packed (length before))

@@ -1,4 +1,4 @@
-//! What the data of a message mean, and where each field stands.
+//! The meaning of the data of a message, and where each field stands.
 ghost use Rattle.std.specs.Prelude.{◌≡◌, ◌+◌, ◌≤◌, Some, length, map, slice_set};
 ghost use Rattle.hart_commands.specs.Commands.{reply_rows};
 ghost use Rattle.hart_commands.specs.Fields.{fields_of, seen};
@@ -50,19 +50,19 @@ pub struct HartField {
 #[repr(C)]
 #[derive(Clone, Copy)]
 pub struct HartReading {
-    /// How many fields there are. Only fields that have room in the array are shown.
+    /// How many fields there are. Fields for which the array has no room are not written.
     pub count: usize,
-    /// How many bytes were taken, status bytes included. If the data are not refused, later bytes are ignored.
+    /// How many bytes were taken, status bytes included. Unless the data are refused, the bytes after the taken bytes are ignored.
     pub taken: usize,
-    /// For a reply its response code; for a request the response code that refuses it, or 0.
+    /// For a reply, its response code. For a request, the response code that refuses the request, or 0 if the request is not refused.
     pub code: u8,
-    /// For a reply its device status; for a request 0.
+    /// For a reply, its device status. For a request, 0.
     pub status: u8,
     /// The number of the fault, or 0 if there is no fault.
     pub fault: u8,
 }
 
-/// Reads the data of a request of this command, and shows in `fields` where the request's fields stand, as far as `fields` has room
+/// Reads the data of a request of this command, and writes to `fields` where the request's fields stand, as far as there is room
 /// (HCF_SPEC-127).
 ///
 /// A refused request has no fields. Its code is the first of these that applies: 64 for an unknown command, 5 for too few bytes, 2
@@ -96,14 +96,14 @@ pub extern "C" fn hart_read_request(
     }
 }
 
-/// Reads the payload of a reply to this command, which begins with the two status bytes. Shows in `fields` where the fields of the data
-/// stand, as far as `fields` has room (HCF_SPEC-127). With a code other than 0 there are no fields.
+/// Reads the payload of a reply to this command, which begins with the two status bytes. Writes to `fields` where the fields of the data
+/// stand, as far as there is room (HCF_SPEC-127). With a code other than 0 there are no fields.
 ///
 /// # Errors
 ///
 /// [`HART_NO_REPLY`] if the payload is no reply to this command: if it has fewer than two bytes, if bit 7 of the first byte is set, if the
-/// command is not known, or if the code is 0 and the data are no content of the command. All numbers of the result except the fault
-/// are then 0, and `fields` is unchanged.
+/// command is not known, or if the code is 0 and the data do not fit the command. All numbers of the result except the fault are then 0,
+/// and `fields` is unchanged.
 #[unsafe(no_mangle)]
 pub extern "C" fn hart_read_reply(
     command: u8,
@@ -124,7 +124,7 @@ pub extern "C" fn hart_read_reply(
     }
 }
 
-/// Shows where the fields of a reply stand in its payload.
+/// Writes the places of a reply's fields in its payload into `fields`, as far as there is room.
 fn show_reply(command: u8, payload: &[u8], reply: &Reply, fields: &mut [HartField]) -> HartReading
     requires { reply_reading command payload.now ≡ Some reply.now }
     ensures { let reply = reply.now in
@@ -146,8 +146,8 @@ fn show_reply(command: u8, payload: &[u8], reply: &Reply, fields: &mut [HartFiel
     }
 }
 
-/// Shows in `fields` where the field of each row stands in the data, as far as `fields` has room. The first field stands at `start`.
-/// Returns the number of fields.
+/// Writes the place of each row's field in the data into `fields`, as far as there is room. The first field stands at `start`. Returns the
+/// number of fields, written or not.
 fn show_fields(rows: &[FieldRow], bytes: &[u8], start: u8, fields: &mut [HartField]) -> usize
     requires { start + length bytes.now ≤ 255 }
     ensures count { result ≡ length (fields_of (map seen rows.now) bytes.now) }
@@ -168,7 +168,7 @@ fn show_fields(rows: &[FieldRow], bytes: &[u8], start: u8, fields: &mut [HartFie
     count
 }
 
-/// Shows at index `count` where a field stands, if there is room for it.
+/// Writes the place of a field into `fields`, at index `count`. If `fields` has no such index, writes nothing.
 fn show_field(kind: FieldKind, start: u8, len: u8, count: usize, fields: &mut [HartField])
     ensures { fields.new ≡ slice_set fields.old count (record { start = start; len = len; kind = kind_number kind }) }
 {

@@ -5,8 +5,8 @@ use crate::fault::{HART_OK, HartOutcome, number_of_frame_fault};
 use crate::frame::{HartFrame, show_frame};
 use hart_frame::decode;
 
-/// Reads the frame at the front of `bytes`, from its delimiter on, and returns the length of its body. `frame` then shows the frame, which
-/// starts at place 0.
+/// Reads the frame at the front of `bytes`, from its delimiter on, and returns the length of its body. Writes the frame to `frame`,
+/// starting at place 0.
 ///
 /// # Errors
 ///

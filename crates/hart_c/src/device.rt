@@ -1,5 +1,5 @@
-//! A device that the caller keeps as its image and its cold start bits, so that it can be stored and copied. Each call reads the image
-//! again, in about 2 microseconds.
+//! A device that the caller keeps as its image and its cold start bits, so that the caller can store and copy the device. Each call reads
+//! the image again, in about 2 microseconds.
 ghost use Rattle.std.specs.Prelude.{◌≡◌, true, IfErr, IfOk, OnErr, length, option_map};
 ghost use Rattle.hart_frame.specs.wire.Message.{IsPreambleCount};
 ghost use Rattle.hart_device.specs.Device.{DeviceState, IsDevice, restarted};
@@ -36,7 +36,7 @@ pub struct HartDevice {
 }
 
 /// Makes a new device with these register values, counter 0 and all bits clear. Writes to `device` what the caller keeps of the new device,
-/// and returns the length of the image.
+/// and returns the length of the device's image.
 ///
 /// # Errors
 ///
@@ -87,7 +87,7 @@ pub extern "C" fn hart_hear(
     outcome_of(said)
 }
 
-/// Lets a device hear a delivery, and returns the length of its reply.
+/// Lets a device hear a delivery, and returns the length of its reply, or the first fault.
 pub(crate) fn hear(
     identity: &HartIdentity,
     process: &HartProcess,
@@ -108,7 +108,8 @@ pub(crate) fn hear(
     say_and_keep(said, &state, reply, device)
 }
 
-/// Writes the reply of a device in this state as [`say`] does, and then writes to `device` what the caller keeps of the device.
+/// Writes the reply of a device in this state as [`say`] does, and then writes to `device` what the caller keeps of the device. With a
+/// fault, `reply` and `device` are unchanged.
 pub(crate) fn say_and_keep(
     said: Option<Frame>,
     state: &Device<ImageRegisters>,
@@ -128,7 +129,7 @@ pub(crate) fn say_and_keep(
     Ok(len)
 }
 
-/// Returns the device whose state the caller keeps.
+/// Returns the device that the caller keeps, or the first fault of its checks.
 pub(crate) fn kept_state(
     identity: &HartIdentity,
     device: &HartDevice,
@@ -158,7 +159,8 @@ fn keep(state: &Device<ImageRegisters>, device: &mut HartDevice)
     device.secondary_cold_start = state.cold_start(MasterId::Secondary);
 }
 
-/// Writes the frame that a device or a master sends, as a message, to the front of `output`. Returns its length, or 0 if no frame is sent.
+/// Writes the frame that a device or a master sends, as a message, to the front of `output`. Returns the length of the message, 0 if no
+/// frame is sent, or a fault if `output` is too short.
 pub(crate) fn say(said: Option<&Frame>, preambles: u8, output: &mut [u8]) -> Result<usize, Fault>
     requires { IsPreambleCount preambles }
     ensures said { IfOk result (IsWritten (IsSaid (option_map (λ frame. frame.now) said.entry) preambles) output.old output.new) }

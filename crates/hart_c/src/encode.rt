@@ -12,7 +12,7 @@ use hart_frame::{Expansion, Frame, FrameKind, Message, Payload, encode};
 use hart_values::{Address, MasterId};
 
 /// Writes a frame as a message to the front of `output`: `preambles` preamble bytes, then the body of the frame. An output of 287 bytes has
-/// room for any message. Ignores `start`, `stop` and the numbers of the unused kind of address.
+/// room for any message. Ignores `start`, `stop` and the fields of the unused kind of address.
 ///
 /// # Errors
 ///
@@ -25,7 +25,7 @@ pub extern "C" fn hart_encode(frame: &HartFrame, preambles: u8, output: &mut [u8
     outcome_of(write_message(frame, preambles, output))
 }
 
-/// Writes a frame as a message to the front of `output`, and returns the length of the message.
+/// Writes a frame as a message to the front of `output`. Returns the length of the message, or the first fault.
 fn write_message(frame: &HartFrame, preambles: u8, output: &mut [u8]) -> Result<usize, Fault>
     ensures frame { IfOk result (λ len. IsFrame frame.now × IsPreambleCount preambles) }
     ensures written { IfOk result (IsWritten (IsMessage (frame_in frame.now) preambles) output.old output.new) }
@@ -43,7 +43,7 @@ fn write_message(frame: &HartFrame, preambles: u8, output: &mut [u8]) -> Result<
     put(message.as_slice(), output)
 }
 
-/// Returns the frame that these numbers describe, or the fault of the first check that the numbers fail.
+/// Returns the frame that this `HartFrame` describes, or the fault of the first check that it fails.
 pub(crate) fn frame_of(frame: &HartFrame) -> Result<Frame, Fault>
     ensures same { IfOk result (λ made. made ≡ frame_in frame.now) }
     ensures frame { IfOk result (λ made. IsFrame frame.now) }
@@ -65,7 +65,7 @@ pub(crate) fn frame_of(frame: &HartFrame) -> Result<Frame, Fault>
     .map_err(Fault::Frame)
 }
 
-/// Returns the address that these numbers describe, or `None` if a number of the address is out of range.
+/// Returns the address that this `HartFrame` describes, or `None` if a number of the address is out of range.
 fn address_of(frame: &HartFrame) -> Option<Address>
     ensures in_range { IsSome result ↔ IsInRange frame.now.is_unique frame.now }
     ensures same { IfSome result (λ address. address ≡ address_of frame.now.is_unique frame.now) }

@@ -15,13 +15,13 @@ pub const HART_TOO_SHORT_REPLY: u8 = 1;
 /// A number of preamble bytes outside 5 to 20.
 pub const HART_BAD_PREAMBLE: u8 = 2;
 
-/// The first byte is no delimiter of this profile.
+/// The first byte is no STX or ACK delimiter.
 pub const HART_BAD_DELIMITER: u8 = 3;
 
 /// The bytes end before the check byte.
 pub const HART_TRUNCATED: u8 = 4;
 
-/// The exclusive or of the body with its check byte is not 0.
+/// The check byte does not give the body even parity: the exclusive or of the whole body is not 0.
 pub const HART_BAD_CHECK: u8 = 5;
 
 /// The byte count of a reply is below 2.
@@ -42,7 +42,7 @@ pub const HART_BAD_FAULT_BITS: u8 = 13;
 /// A payload is no reply to the command.
 pub const HART_NO_REPLY: u8 = 14;
 
-/// There is no such command or field.
+/// The command, the field or the name is not known.
 pub const HART_UNKNOWN: u8 = 15;
 
 /// A number of an identity is out of range.
@@ -54,7 +54,7 @@ pub const HART_BROADCAST_ADDRESS: u8 = 17;
 /// An image of an unknown version.
 pub const HART_BAD_VERSION: u8 = 18;
 
-/// An image with no bytes or more than 86, or with the wrong length for its version; also packed text of other than 6, 12 or 24 bytes.
+/// An image has no bytes, more than 86, or the wrong number for its version; or packed text has a length other than 6, 12 or 24 bytes.
 pub const HART_BAD_LENGTH: u8 = 19;
 
 /// A register would hold bytes that are not valid in it, or the flags of an image are above 7.
@@ -63,26 +63,29 @@ pub const HART_BAD_FIELD: u8 = 20;
 /// A process without a dynamic variable, or with more than four.
 pub const HART_BAD_VARIABLES: u8 = 21;
 
-/// More than 1,024 characters are heard at once, or a reply would have more data than it can.
+/// More than 1,024 characters are heard at once, more data are given than a reply can have, or a text is too long for its packed text.
 pub const HART_TOO_LONG: u8 = 22;
 
 /// A frame that is no request of a master.
 pub const HART_NO_REQUEST: u8 = 23;
 
-/// A request that may not be sent to this address.
+/// A request that may not be sent to its address.
 pub const HART_WRONG_ADDRESS: u8 = 24;
 
 /// A request is in hand already.
 pub const HART_PENDING: u8 = 25;
 
-/// More than 15 retries, a reply limit of 0, or a kept master that no call leaves so.
+/// A master has more than 15 retries or a reply limit of 0, or a kept master has numbers that no call writes.
 pub const HART_BAD_MASTER: u8 = 26;
 
 /// A response code above 127.
 pub const HART_BAD_CODE: u8 = 27;
 
-/// A character that packed text does not have.
+/// A text has a character that packed text cannot have.
 pub const HART_BAD_CHARACTER: u8 = 28;
+
+/// A style of explanation other than words and JSON.
+pub const HART_BAD_STYLE: u8 = 29;
 
 /// The result of a call: how many bytes were written or read, or the fault.
 #[repr(C)]
@@ -111,20 +114,22 @@ pub(crate) enum Fault {
     Device(DeviceFault),
     /// A process has no dynamic variable, or more than four.
     BadVariables,
-    /// There are more than 1,024 characters, or more data than a reply can have.
+    /// There are more than 1,024 characters, more data than a reply can have, or more text than the packed text can have.
     TooLong,
     /// The frame is no request of a master.
     NoRequest,
-    /// The request may not be sent to this address.
+    /// The request may not be sent to its address.
     WrongAddress,
     /// A request is in hand already.
     Pending,
-    /// There are more than 15 retries, the reply limit is 0, or no call leaves a kept master so.
+    /// A master has more than 15 retries or a reply limit of 0, or a kept master has numbers that no call writes.
     BadMaster,
     /// A response code is above 127.
     BadCode,
-    /// Packed text does not have a character.
+    /// A text has a character that packed text cannot have.
     BadCharacter,
+    /// There is no such style of explanation.
+    BadStyle,
 }
 
 impl Fault {
@@ -147,11 +152,12 @@ impl Fault {
             Fault::BadMaster => HART_BAD_MASTER,
             Fault::BadCode => HART_BAD_CODE,
             Fault::BadCharacter => HART_BAD_CHARACTER,
+            Fault::BadStyle => HART_BAD_STYLE,
         }
     }
 }
 
-/// Returns the number that a fault of a device has in C.
+/// Returns the number in C of a fault of a device.
 fn number_of_device_fault(fault: DeviceFault) -> u8
     ensures { result ≡ number_of (Fault.Device fault) }
 {
@@ -164,7 +170,7 @@ fn number_of_device_fault(fault: DeviceFault) -> u8
     }
 }
 
-/// Returns the number that a fault of a frame has in C.
+/// Returns the number in C of a fault of a frame.
 pub(crate) fn number_of_frame_fault(fault: FrameFault) -> u8
     ensures { result ≡ frame_fault_number fault }
 {

@@ -1,4 +1,4 @@
-//! Finding the frames in what was heard. Each call finds the next frames.
+//! Finding the frames in what was heard. Each call finds the next frames, and the next call goes on after them.
 ghost use Rattle.std.specs.Prelude.{◌≡◌, ◌<◌, ◌≤◌, false, true, List, IsTrue, All, drop, length, map, min, take};
 ghost use Rattle.hart_frame.specs.heard.Character.{AreFaultBits, Character, faultless};
 ghost use Rattle.hart_frame.specs.heard.Frames.{IsUndecided};
@@ -19,7 +19,7 @@ const CHUNK: usize = 64;
 #[repr(C)]
 #[derive(Clone, Copy)]
 pub struct HartSearch {
-    /// How many of the passed elements are used up. Pass the unused elements again, followed by what comes next.
+    /// How many of the passed elements are used up. Pass the unused elements again, followed by the new elements.
     pub used: usize,
     /// How many frames were found.
     pub count: usize,
@@ -61,7 +61,7 @@ pub extern "C" fn hart_find_in_bytes(
     found_so_far(used, count)
 }
 
-/// Returns the result of a search that used up this number of characters and found this number of frames.
+/// Returns the result of a search that used up `used` characters and found `count` frames.
 fn found_so_far(used: usize, count: usize) -> HartSearch
     ensures { result ≡ record { used = used; count = count; fault = 0 } }
 {
@@ -109,7 +109,8 @@ pub extern "C" fn hart_find(heard: &[HartChar], ended: bool, frames: &mut [HartF
     found_so_far(scanner.first_held() as usize, count)
 }
 
-/// Copies the first characters to the front of a chunk, until no character is left or the chunk is full. Returns how many it copied.
+/// Copies the first characters to the front of a chunk, until no character is left or the chunk is full. Returns how many characters were
+/// copied.
 fn copy_front(heard: &[HartChar], chunk: &mut [Char]) -> usize
     requires { All (λ given. AreFaultBits given.faults) heard.now }
     ensures count { result ≡ min (length heard.now) (length chunk.old) }
@@ -123,7 +124,7 @@ fn copy_front(heard: &[HartChar], chunk: &mut [Char]) -> usize
     count
 }
 
-/// Returns the character that these numbers describe.
+/// Returns the character that this `HartChar` describes.
 pub(crate) fn char_of(given: &HartChar) -> Char
     requires { AreFaultBits given.now.faults }
     ensures { result ≡ char_of given.now }
@@ -131,8 +132,8 @@ pub(crate) fn char_of(given: &HartChar) -> Char
     Char::new(given.byte, given.faults).unwrap()
 }
 
-/// Shows the next frames of a scanner in `frames`, from index `count` on, until there are no more frames or no more room. Returns the index
-/// after the last shown frame.
+/// Writes the next frames of a scanner to `frames`, from index `count` on, until there are no more frames or no more room. Returns the
+/// index after the last written frame.
 #[inline(always)]
 fn fill(scanner: &mut Scanner, frames: &mut [HartFrame], count: usize) -> usize
     requires room { count ≤ length frames.old }
@@ -160,7 +161,7 @@ fn fill(scanner: &mut Scanner, frames: &mut [HartFrame], count: usize) -> usize
     count
 }
 
-/// Shows the next frame of a scanner and returns true, or returns false if there is no next frame.
+/// Writes the next frame of a scanner to `frame` and returns true, or returns false if there is no next frame.
 #[inline(always)]
 fn give(scanner: &mut Scanner, frame: &mut HartFrame) -> bool
     ensures found { IsTrue result → Gives scanner.old scanner.new (found_in frame.new) }

@@ -1,5 +1,4 @@
-//! A frame, as numbers for C. One struct of 288 bytes serves finding, reading and writing. A call writes only the bytes that the frame
-//! needs.
+//! A frame, as a C struct of 288 bytes. It is used to find, read and write frames. A call writes only the bytes that the frame needs.
 ghost use Rattle.std.specs.Prelude.{◌≡◌, ◌≤◌, false, length, true};
 ghost use Rattle.hart_frame.specs.scan.View.{found_of};
 ghost use Rattle.hart_c.specs.Numbers.{IsTidy, address_of, found_in, frame_in};
@@ -19,14 +18,14 @@ pub struct HartFrame {
     pub device_id: u32,
     /// The expanded device type of a unique address, at most 16,383; 0 for a polling address.
     pub expanded_type: u16,
-    /// Whether the frame is a reply (ACK), not a request (STX).
+    /// Whether the frame is a reply (ACK). Otherwise it is a request (STX).
     pub is_reply: bool,
     /// Whether the master of the frame is the primary one.
     pub is_primary: bool,
     /// The burst bit.
     pub is_burst: bool,
-    /// Whether the address of the frame is a unique address of five bytes, not a polling address. If `expanded_type` and `device_id` of a
-    /// unique address are 0, it is the broadcast address.
+    /// Whether the address of the frame is a unique address of five bytes. Otherwise it is a polling address. A unique address with 0 as
+    /// `expanded_type` and as `device_id` is the broadcast address.
     pub is_unique: bool,
     /// The polling address, at most 63; 0 for a unique address.
     pub polling_address: u8,
@@ -141,7 +140,7 @@ fn show_parts(parts: &Parts<'_>, frame: &mut HartFrame)
     frame.payload[..parts.payload.len()].copy_from_slice(parts.payload);
 }
 
-/// Replaces the address of `frame` by this address.
+/// Replaces the address of `frame` by this address. The other parts stay the same.
 #[inline(always)]
 fn show_address(address: Address, frame: &mut HartFrame)
     ensures address { address_of frame.new.is_unique frame.new ≡ address }

@@ -28,13 +28,13 @@ pub const HART_DUE: u8 = 1;
 /// The request in hand was sent, and its reply is awaited.
 pub const HART_AWAITING: u8 = 2;
 
-/// The request in hand was answered. The master takes a new request, or repeats this one.
+/// The request in hand was answered. The master takes a new request, or repeats the answered request.
 pub const HART_ANSWERED: u8 = 3;
 
-/// Nothing new.
+/// Nothing happened.
 pub const HART_EVENT_NONE: u8 = 0;
 
-/// The frame is the reply.
+/// The frame is the reply to the request in hand.
 pub const HART_EVENT_ANSWERED: u8 = 1;
 
 /// The request is due to be sent again.
@@ -47,35 +47,35 @@ pub const HART_EVENT_GIVEN_UP: u8 = 3;
 #[repr(C)]
 #[derive(Clone, Copy)]
 pub struct HartMaster {
-    /// The request in hand; it does not count if `state` is [`HART_IDLE`].
+    /// The request in hand. If `state` is [`HART_IDLE`], this field has no meaning.
     pub request: HartFrame,
     /// How often a request is sent again, at most 15.
     pub retries: u8,
     /// How many character times the master awaits a reply, at least 1.
     pub reply_limit: u8,
-    /// Whether a request is in hand, and what it waits for: [`HART_IDLE`] to [`HART_ANSWERED`].
+    /// Whether a request is in hand, and whether it is due, awaits its reply or was answered: [`HART_IDLE`] to [`HART_ANSWERED`].
     pub state: u8,
     /// How often the request in hand was sent.
     pub sendings: u8,
-    /// How many character times passed since the request was sent, where 255 means 255 or more; it counts if `state` is
+    /// How many character times passed since the request was sent; 255 means 255 or more. This number has a meaning only if `state` is
     /// [`HART_AWAITING`].
     pub waited: u8,
 }
 
-/// What became of the request in hand.
+/// What happened to the request in hand during a call.
 #[repr(C)]
 #[derive(Clone, Copy)]
 pub struct HartEvent {
     /// What happened, [`HART_EVENT_NONE`] to [`HART_EVENT_GIVEN_UP`].
     pub event: u8,
-    /// How often the request was sent that was answered or given up; otherwise 0.
+    /// If the request was answered or given up in this call, how often it was sent; otherwise 0.
     pub sendings: u8,
     /// The number of the fault, or 0 if there is no fault.
     pub fault: u8,
 }
 
-/// Writes to `master` a master with no request in hand. It sends a request again at most `retries` times, and awaits each reply for
-/// `reply_limit` character times. Returns 0 or the number of the fault.
+/// Writes to `master` a master with no request in hand. This master sends a request again at most `retries` times, and awaits each reply
+/// for `reply_limit` character times. Returns 0 or the number of the fault.
 ///
 /// # Errors
 ///
@@ -108,7 +108,7 @@ pub extern "C" fn hart_submit(request: &HartFrame, master: &mut HartMaster) -> u
     number_of_result(submit(request, master))
 }
 
-/// Takes in hand a request of any command.
+/// Takes in hand a request of any command, or returns the first fault.
 fn submit(request: &HartFrame, master: &mut HartMaster) -> Result<(), Fault>
     ensures taken { IfOk result (λ done. AllPass (submit_checks request.now master.old) × (state : FrameMasterState)
         × Becomes master.old master.new request.now state (hand_submitted state.hand (frame_in request.now))) }
@@ -125,7 +125,7 @@ fn submit(request: &HartFrame, master: &mut HartMaster) -> Result<(), Fault>
     Ok(())
 }
 
-/// Returns the fault of a request that a master did not take.
+/// Returns the fault in C of a request that a master did not take.
 fn fault_of(fault: MasterFault) -> Fault
     ensures { result ≡ submit_fault fault }
 {
@@ -154,7 +154,7 @@ pub extern "C" fn hart_send(
     outcome_of(send(preambles, master, output))
 }
 
-/// Writes the request that is due as a message, and returns the length of the message.
+/// Writes the request that is due as a message. Returns the length of the message, or the first fault.
 fn send(preambles: u8, master: &mut HartMaster, output: &mut [u8]) -> Result<usize, Fault>
     ensures sent { IfOk result (Sends preambles master.old master.new output.old output.new) }
     ensures refused { IfErr result (IsFirstOf (send_checks preambles master.old (length output.old))) }
@@ -171,7 +171,7 @@ fn send(preambles: u8, master: &mut HartMaster, output: &mut [u8]) -> Result<usi
     Ok(len)
 }
 
-/// Lets a master receive a frame that was found. If the frame is the reply, the master is idle again.
+/// Lets a master receive a frame that was found. If the frame is the awaited reply, the state is then [`HART_ANSWERED`].
 ///
 /// # Errors
 ///
@@ -183,7 +183,7 @@ pub extern "C" fn hart_receive(frame: &HartFrame, master: &mut HartMaster) -> Ha
     event_of(receive(frame, master))
 }
 
-/// Lets a master receive a frame, and returns what became of the request in hand.
+/// Lets a master receive a frame. Returns what became of the request in hand, or the first fault.
 fn receive(frame: &HartFrame, master: &mut HartMaster) -> Result<FrameEvent, Fault>
     ensures received { IfOk result (λ event. AllPass (receive_checks frame.now master.old) × (state : FrameMasterState)
         × Becomes master.old master.new master.old.request state (hand_received state.hand event)
@@ -198,12 +198,12 @@ fn receive(frame: &HartFrame, master: &mut HartMaster) -> Result<FrameEvent, Fau
     Ok(event)
 }
 
-/// Lets this number of character times pass, where 255 means 255 or more. If a reply is awaited and its time is over, the request is due
-/// again, or the master gives it up.
+/// Lets this number of character times pass, where 255 means 255 or more. If a reply is awaited and the time for the reply is over, the
+/// request is due again, or the master gives the request up.
 ///
 /// # Errors
 ///
-/// A bad kept master, which is then unchanged.
+/// [`HART_BAD_MASTER`](crate::fault::HART_BAD_MASTER) if the kept master is bad. `master` is then unchanged.
 #[unsafe(no_mangle)]
 pub extern "C" fn hart_tick(character_times: u8, master: &mut HartMaster) -> HartEvent
     ensures { TickOutcome character_times master.old master.new result }
@@ -211,7 +211,7 @@ pub extern "C" fn hart_tick(character_times: u8, master: &mut HartMaster) -> Har
     event_of(tick(character_times, master))
 }
 
-/// Lets this number of character times pass, and returns what became of the request in hand.
+/// Lets this number of character times pass. Returns what became of the request in hand, or the fault of the kept master.
 fn tick(character_times: u8, master: &mut HartMaster) -> Result<FrameEvent, Fault>
     ensures ticked { IfOk result (λ event. (state : FrameMasterState)
         × Becomes master.old master.new master.old.request state
@@ -226,11 +226,12 @@ fn tick(character_times: u8, master: &mut HartMaster) -> Result<FrameEvent, Faul
     Ok(event)
 }
 
-/// Ends the wait for a reply at once, or repeats a request that was answered: the request is due again, or the master gives it up.
+/// If a reply is awaited, ends the wait at once. If a request was answered, repeats this request. In both cases the request is due again,
+/// or the master gives it up.
 ///
 /// # Errors
 ///
-/// A bad kept master, which is then unchanged.
+/// [`HART_BAD_MASTER`](crate::fault::HART_BAD_MASTER) if the kept master is bad. `master` is then unchanged.
 #[unsafe(no_mangle)]
 pub extern "C" fn hart_again(master: &mut HartMaster) -> HartEvent
     ensures { AgainOutcome master.old master.new result }
@@ -238,7 +239,7 @@ pub extern "C" fn hart_again(master: &mut HartMaster) -> HartEvent
     event_of(again(master))
 }
 
-/// Ends the wait for a reply or repeats a request, and returns what became of the request in hand.
+/// Ends the wait for a reply, or repeats an answered request. Returns what became of the request in hand, or the fault of the kept master.
 fn again(master: &mut HartMaster) -> Result<FrameEvent, Fault>
     ensures again { IfOk result (λ event. (state : FrameMasterState)
         × Becomes master.old master.new master.old.request state (hand_again state.retries state.hand)
@@ -252,7 +253,7 @@ fn again(master: &mut HartMaster) -> Result<FrameEvent, Fault>
     Ok(event)
 }
 
-/// Returns an event, or the fault, as numbers for C.
+/// Returns an event, or the fault, as a `HartEvent`.
 fn event_of(event: Result<FrameEvent, Fault>) -> HartEvent
     ensures { result ≡ event_of event }
 {
@@ -270,7 +271,7 @@ fn event_of(event: Result<FrameEvent, Fault>) -> HartEvent
     }
 }
 
-/// Returns the master that the caller keeps.
+/// Returns the master that the caller keeps, or a fault if no master has these fields.
 fn kept_master(master: &HartMaster) -> Result<FrameMaster, Fault>
     ensures kept { IfOk result (IsMaster master.now) }
     ensures refused { IfErr result (IsFirstOf (master_checks master.now)) }
@@ -282,7 +283,7 @@ fn kept_master(master: &HartMaster) -> Result<FrameMaster, Fault>
     }
 }
 
-/// Returns what a kept master has in hand, or `None` if the numbers have no meaning.
+/// Returns what a kept master has in hand, or `None` if its fields describe no such thing.
 fn hand_in(master: &HartMaster) -> Option<FrameHand>
     ensures hand { IfSome result (IsInHand master.now) }
     ensures none { (hand : FrameHand) → IsInHand master.now hand → IsSome result }
@@ -296,7 +297,7 @@ fn hand_in(master: &HartMaster) -> Option<FrameHand>
     }
 }
 
-/// Returns the request that a kept master has in hand, and how often it was sent, or `None` if the numbers are no frame.
+/// Returns the request that a kept master has in hand, and how often it was sent, or `None` if the field `request` makes no frame.
 fn transaction_in(master: &HartMaster) -> Option<FrameTransaction>
     ensures transaction { IfSome result (IsTransaction master.now) }
     ensures none { (transaction : FrameTransaction) → IsTransaction master.now transaction → IsSome result }
@@ -308,7 +309,8 @@ fn transaction_in(master: &HartMaster) -> Option<FrameTransaction>
     })
 }
 
-/// Writes to `master` what this master has in hand. The numbers of the request and the limits stay as they are.
+/// Copies to `master` the state, the number of sendings and the time waited of the master `state`. The request and the limits of `master`
+/// stay the same.
 fn keep(state: &FrameMaster, master: &mut HartMaster)
     ensures { master.new ≡ record master.old {
       state = state_number state.now.hand;

@@ -7,8 +7,8 @@ use crate::fault::Fault;
 use crate::find::{HartChar, char_of};
 use hart_frame::Char;
 
-/// The maximum number of characters in a delivery. They are in an array on the stack, because the proof of a bounded list did not end in 4
-/// minutes.
+/// The maximum number of characters in a delivery. The characters are in an array on the stack, because the proof of a bounded list did not
+/// end within 4 minutes.
 pub(crate) const MOST_CHARACTERS: usize = 1024;
 
 /// Copies the characters of a delivery to the front of `chars`, and returns their number. Returns a fault if a character has a bit that is

@@ -1,4 +1,4 @@
-//! Who a device is, as numbers for C.
+//! Who a device is, as a C struct.
 ghost use Rattle.std.specs.Prelude.{◌≡◌};
 ghost use Rattle.hart_device.specs.Bench.{bench_identity};
 ghost use Rattle.hart_c.specs.Numbers.{parts_of};
@@ -59,7 +59,7 @@ pub extern "C" fn hart_bench_identity(identity: &mut HartIdentity)
     };
 }
 
-/// Returns the parts of the identity that these numbers describe.
+/// Returns the parts of the identity that this `HartIdentity` describes.
 pub(crate) fn parts_of(identity: &HartIdentity) -> IdentityParts
     ensures { result ≡ parts_of identity.now }
 {

@@ -4,11 +4,14 @@ ghost use Rattle.std.specs.Prelude.{All, length, slice_get, slice_index, take};
 ghost use Rattle.hart_frame.specs.heard.Character.{Character};
 ghost use Rattle.hart_frame.specs.heard.Frames.{AreFrames};
 ghost use Rattle.hart_frame.specs.declared.heard.found.Found.{Found};
+ghost use Rattle.hart_commands.specs.Codes.{code_name};
 ghost use Rattle.hart_commands.specs.Commands.{command_name, reply_rows, request_rows};
 ghost use Rattle.hart_commands.specs.Fields.{fields_of};
 ghost use Rattle.hart_commands.specs.Parts.{content_bytes};
 ghost use Rattle.hart_commands.specs.ReplyData.{reply_reading};
 ghost use Rattle.hart_commands.specs.RequestData.{request_reading};
+ghost use Rattle.hart_commands.specs.StatusBits.{comm_fault_name, device_state_name};
+ghost use Rattle.hart_commands.specs.Units.{unit_name};
 ghost use Rattle.hart_commands.specs.declared.reply.Reply.{Reply};
 ghost use Rattle.hart_commands.specs.declared.request.Request.{Request};
 ghost use Rattle.hart_device.specs.Device.{DeviceState, IsDevice};
@@ -35,6 +38,7 @@ ghost use Rattle.hart_c.specs.Master.{AcceptOutcome};
 ghost use Rattle.hart_c.specs.FrameMaster.{AgainOutcome, IsMaster, NewMasterOutcome, ReceiveOutcome, SendOutcome, SubmitOutcome};
 ghost use Rattle.hart_c.specs.FrameMaster.{TickOutcome};
 ghost use Rattle.hart_c.specs.Marks.{Unmarks};
+ghost use Rattle.hart_c.specs.Explain.{ExplainOutcome};
 ghost use Rattle.hart_c.specs.Own.{AnswerOutcome, HearOwnOutcome};
 ghost use Rattle.hart_c.specs.Texts.{PackOutcome, UnpackOutcome};
 ghost use Rattle.hart_master.specs.FrameMaster.{FrameMasterState};
@@ -49,9 +53,8 @@ use hart_device::laws::bytes_have_one_image_fault;
 use hart_frame::laws::{bytes_have_one_fault, messages_are_short};
 
 /// Repeated searches find exactly the frames of the whole input, if each search begins with the characters that the last search left
-/// unused. It does not matter in which pieces the input comes. Each search finds the next frames of the input. To get the place of a frame
-/// in the whole input, add the number of characters that earlier searches used up. When the input has ended and is used up, all its frames
-/// were found.
+/// unused. The input may come in any pieces. Each search finds the next frames of the input. To get the place of a frame in the whole
+/// input, add the number of characters that earlier searches used up. When the input has ended and is used up, all its frames were found.
 pub fn searches_give_all_frames()
     ensures next { (heard : List Character) (ended : Bool) (given : List Found) (used : ℕ)
         → IsSearchedSoFar heard ended given used → AreNext heard ended 0 given used }
@@ -59,17 +62,17 @@ pub fn searches_give_all_frames()
         → IsSearchedSoFar heard true given (length heard) → AreFrames heard 0 given }
 {}
 
-/// The identity of a device and what the caller keeps of it determine the state of the device. So each call continues in the state in which
-/// the previous call left the device.
+/// The identity of a device and what the caller keeps of the device determine the device's state. So each call goes on from the state in
+/// which the previous call left the device.
 pub fn devices_are_kept()
     ensures kept { (state : DeviceState) → IsDevice state → IsKept state.identity (device_of state) state }
     ensures one_state { (parts : IdentityParts) (device : HartDevice) (state other : DeviceState)
         → IsKept parts device state → IsKept parts device other → state ≡ other }
 {}
 
-/// The field shown at an index is the field whose name `hart_field_name` writes for this index. It lies within the data, right after the
-/// fields before it. Its kind is the kind in the field's row of the table, and its length is allowed for this kind: a float has 4 bytes, a
-/// date 3, a number 1 or 2, packed text 6, 12 or 24, and device variables 8 each.
+/// The field that a call writes at an index is the field whose name `hart_field_name` writes for this index. The field lies within the
+/// data, right after the fields before it. Its kind is the kind in the field's row of the table, and its length is allowed for this kind: a
+/// float has 4 bytes, a date 3, a number 1 or 2, packed text 6, 12 or 24, and device variables 8 each.
 pub fn fields_stand_where_they_are_shown()
     ensures requests { (command index : ℕ) (bytes : List ℕ) (before after : List HartField) (reading : HartReading) (shown : HartField)
         → RequestOutcome command bytes before after reading → index < reading.count → slice_get after index ≡ Some shown
@@ -90,9 +93,17 @@ pub fn sixteen_fields_and_names_of_64_bytes_have_room()
         → NameOutcome (command_name command) before after outcome → outcome.fault ≢ 12 }
     ensures field_names { (is_reply : Bool) (command index : ℕ) (before after : List ℕ) (outcome : HartOutcome) → 64 ≤ length before
         → NameOutcome (field_name is_reply command index) before after outcome → outcome.fault ≢ 12 }
+    ensures unit_names { (unit : ℕ) (before after : List ℕ) (outcome : HartOutcome) → 64 ≤ length before
+        → NameOutcome (unit_name unit) before after outcome → outcome.fault ≢ 12 }
+    ensures code_names { (command code : ℕ) (before after : List ℕ) (outcome : HartOutcome) → 64 ≤ length before
+        → NameOutcome (code_name command code) before after outcome → outcome.fault ≢ 12 }
+    ensures status_names { (bit : ℕ) (before after : List ℕ) (outcome : HartOutcome) → 64 ≤ length before
+        → NameOutcome (device_state_name bit) before after outcome → outcome.fault ≢ 12 }
+    ensures comm_fault_names { (bit : ℕ) (before after : List ℕ) (outcome : HartOutcome) → 64 ≤ length before
+        → NameOutcome (comm_fault_name bit) before after outcome → outcome.fault ≢ 12 }
 {}
 
-/// Bytes that are not taken are ignored: if only the taken bytes are passed, the call has the same result and shows the same fields. A
+/// Bytes that are not taken are ignored: if only the taken bytes are passed, the call has the same result and writes the same fields. A
 /// reply takes at least two bytes: its response code and its device status.
 pub fn bytes_that_are_not_taken_are_ignored()
     ensures requests { (command : ℕ) (bytes : List ℕ) (request : Request) (before after : List HartField) (reading : HartReading)
@@ -109,8 +120,8 @@ pub fn bytes_that_are_not_taken_are_ignored()
     written_payloads_are_read_again();
 }
 
-/// A frame that a call shows can be written as it is: its address is in range, it has at most three expansion bytes, and a reply
-/// has its two status bytes.
+/// `hart_encode` accepts each frame that another call has written: its address is in range, it has at most three expansion bytes, and a
+/// reply has its two status bytes.
 pub fn shown_frames_can_be_written()
     ensures found { (chars : List Character) (ended : Bool) (before after : List HartFrame) (search : HartSearch)
         → Finds chars ended before after search → All IsFrame (take search.count after) }
@@ -120,8 +131,8 @@ pub fn shown_frames_can_be_written()
         → AcceptOutcome numbers heard before after acceptance → acceptance.is_accepted ≡ true → IsFrame after }
 {}
 
-/// A message depends only on the frame: if two structs describe the same frame and have the same `expansion_len`, they have the same
-/// message. These parts of a struct do not matter: `start` and `stop`, the numbers of the other kind of address, and the bytes in
+/// A message depends only on the frame. If two structs describe the same frame and have the same `expansion_len`, they have the same
+/// message. These parts of a struct do not matter: `start` and `stop`, the fields of the unused kind of address, and the bytes in
 /// `expansion` and `payload` after the lengths.
 pub fn numbers_of_one_frame_are_written_alike()
     ensures { (frame other : HartFrame) (preambles : ℕ) (before after : List ℕ) (outcome : HartOutcome)
@@ -198,7 +209,7 @@ pub fn masters_are_kept()
     ensures { (master : HartMaster) (state other : FrameMasterState) → IsMaster master state → IsMaster master other → state ≡ other }
 {}
 
-/// The same as [`calls_have_one_outcome`] for the calls of a master.
+/// Like [`calls_have_one_outcome`], for the calls of a master.
 pub fn masters_have_one_outcome()
     ensures new_masters { (retries reply_limit : ℕ) (before after other : HartMaster) (told another : ℕ)
         → NewMasterOutcome retries reply_limit before after told → NewMasterOutcome retries reply_limit before other another
@@ -220,7 +231,7 @@ pub fn masters_have_one_outcome()
     masters_are_kept();
 }
 
-/// The same as [`calls_have_one_outcome`] for a device with commands of its maker's own.
+/// Like [`calls_have_one_outcome`], for a device with commands of its maker's own.
 pub fn own_commands_have_one_outcome()
     ensures hear { (identity : HartIdentity) (process : HartProcess) (own : List ℕ) (heard : List HartChar)
         (before after other : HartDevice) (shown asked again : HartFrame) (old new newer : List ℕ) (told another : HartHearing)
@@ -238,7 +249,7 @@ pub fn own_commands_have_one_outcome()
     bytes_have_one_image_fault();
 }
 
-/// The same as [`calls_have_one_outcome`] for packed texts and for the marks of a port.
+/// Like [`calls_have_one_outcome`], for packed texts, the marks of a port, and explanations.
 pub fn texts_have_one_outcome()
     ensures pack { (text before after other : List ℕ) (outcome another : HartOutcome)
         → PackOutcome text before after outcome → PackOutcome text before other another → (outcome ≡ another) × (after ≡ other) }
@@ -246,4 +257,7 @@ pub fn texts_have_one_outcome()
         → UnpackOutcome packed before after outcome → UnpackOutcome packed before other another → (outcome ≡ another) × (after ≡ other) }
     ensures unmark { (bytes : List ℕ) (before after other : List HartChar) (told another : HartUnmarked)
         → Unmarks bytes before after told → Unmarks bytes before other another → (told ≡ another) × (after ≡ other) }
+    ensures explain { (style : ℕ) (frame : HartFrame) (before after other : List ℕ) (outcome another : HartOutcome)
+        → ExplainOutcome style frame before after outcome → ExplainOutcome style frame before other another
+        → (outcome ≡ another) × (after ≡ other) }
 {}

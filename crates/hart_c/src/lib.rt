@@ -10,6 +10,7 @@ mod data;
 mod decode;
 mod device;
 mod encode;
+mod explain;
 mod fault;
 mod find;
 mod frame;
@@ -34,6 +35,7 @@ pub use data::{HartField, HartReading, hart_read_reply, hart_read_request};
 pub use decode::hart_decode;
 pub use device::{HartDevice, hart_hear, hart_new_device, hart_restart};
 pub use encode::hart_encode;
+pub use explain::hart_explain;
 pub use fault::HartOutcome;
 pub use find::{HartChar, HartSearch, hart_find, hart_find_in_bytes};
 pub use frame::HartFrame;
@@ -44,7 +46,10 @@ pub use frame_master::{
 pub use identity::{HartIdentity, hart_bench_identity};
 pub use mark::{HartUnmarked, hart_unmark};
 pub use master::{HartAcceptance, HartUnique, hart_accept, hart_unique_of};
-pub use name::{hart_command_name, hart_field_name};
+pub use name::{
+    hart_code_name, hart_comm_fault_name, hart_command_name, hart_field_name, hart_status_name,
+    hart_unit_name,
+};
 pub use own::{HartHearing, hart_answer, hart_hear_own};
 pub use packed_text::{hart_pack_text, hart_unpack_text};
 pub use process::{HartOutput, HartProcess, HartSensor, HartVariable, hart_bench_process};

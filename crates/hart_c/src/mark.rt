@@ -1,4 +1,4 @@
-//! The marks with which a POSIX port tells receive errors.
+//! The marks by which a POSIX serial port reports receive errors.
 ghost use Rattle.std.specs.Prelude.{◌≡◌, ◌≤◌, IfSome, MatchOption, length, take};
 ghost use Rattle.hart_c.specs.Marks.{IsCut, IsMarked, Unmarks};
 
@@ -8,11 +8,11 @@ use hart_values::CommFaults;
 /// The byte with which a mark begins.
 const MARK: u8 = 0xFF;
 
-/// How many bytes were used up, and how many characters they are.
+/// The result of [`hart_unmark`]: how many bytes were used up, and how many characters were written.
 #[repr(C)]
 #[derive(Clone, Copy)]
 pub struct HartUnmarked {
-    /// How many bytes are used up; the caller passes the later bytes again, followed by new ones.
+    /// How many bytes are used up. The caller passes the bytes after them again, followed by new bytes.
     pub used: usize,
     /// How many characters were written.
     pub len: usize,
@@ -25,8 +25,9 @@ struct MarkedChar {
     len: usize,
 }
 
-/// Reads the bytes that a POSIX port delivers with `INPCK` and `PARMRK` and without `ISTRIP`, and writes their characters to the front of
-/// `heard`, as far as there is room. A byte with a receive error has the fault bit hex 40. Leaves a mark that is cut at the end.
+/// Reads the bytes that a POSIX port delivers with `INPCK` and `PARMRK` and without `ISTRIP`. Writes the characters of these bytes to the
+/// front of `heard`, as far as there is room. A byte with a receive error has the fault bit hex 40. A mark that is cut off at the end of
+/// the bytes is not used.
 #[unsafe(no_mangle)]
 pub extern "C" fn hart_unmark(bytes: &[u8], heard: &mut [HartChar]) -> HartUnmarked
     ensures { Unmarks bytes.now heard.old heard.new result }
@@ -44,7 +45,7 @@ pub extern "C" fn hart_unmark(bytes: &[u8], heard: &mut [HartChar]) -> HartUnmar
     HartUnmarked { used, len }
 }
 
-/// Returns the character with which bytes begin, or `None` if they are a mark that is cut.
+/// Returns the first character of these bytes, or `None` if the bytes are only the beginning of a mark, or empty.
 fn first_marked(bytes: &[u8]) -> Option<MarkedChar>
     ensures marked { MatchOption result (IsCut bytes.now) (λ first. IsMarked (take first.len bytes.now) first.char) }
     ensures within { IfSome result (λ first. first.len ≤ length bytes.now) }
@@ -57,7 +58,7 @@ fn first_marked(bytes: &[u8]) -> Option<MarkedChar>
     }
 }
 
-/// Returns a character for which a port delivered this number of bytes.
+/// Returns this character, with the number of bytes that a port delivered for it.
 fn marked(byte: u8, faults: u8, len: usize) -> MarkedChar
     ensures { result ≡ record { char = record { byte = byte; faults = faults }; len = len } }
 {

@@ -27,13 +27,13 @@ use hart_frame::Frame;
 use hart_master::{is_request, may_ask, unique_of};
 use hart_values::{Address, MasterId};
 
-/// What became of a request that was sent.
+/// The result of judging a delivery or a frame as the reply to a request.
 #[repr(C)]
 #[derive(Clone, Copy)]
 pub struct HartAcceptance {
     /// Whether a reply to the request was accepted.
     pub is_accepted: bool,
-    /// The response code of the accepted reply, where 0 is success; also 0 if no reply was accepted.
+    /// The response code of the accepted reply, where 0 is success. It is also 0 if no reply was accepted.
     pub code: u8,
     /// The device status of the accepted reply; 0 if no reply was accepted.
     pub status: u8,
@@ -63,7 +63,7 @@ const NO_ADDRESS: HartUnique = HartUnique {
 };
 
 /// Returns whether a master accepts a delivery as the reply to the request that the master sent. A delivery is all that was heard at once.
-/// If the delivery is accepted, `reply` shows the frame of the reply and where this frame stands.
+/// If the delivery is accepted, the frame of the reply and its place are written to `reply`.
 ///
 /// # Errors
 ///
@@ -80,7 +80,7 @@ pub extern "C" fn hart_accept(
     told_of(accept(request, heard, reply))
 }
 
-/// Returns what became of a request, or the fault, as numbers for C.
+/// Returns whether a reply was accepted, or the fault, as a `HartAcceptance`.
 pub(crate) fn told_of(told: Result<HartAcceptance, Fault>) -> HartAcceptance
     ensures told { IfOk told (λ told. result ≡ told) }
     ensures fault { IfErr told (λ fault. result ≡ acceptance_of (Err fault)) }
@@ -91,7 +91,7 @@ pub(crate) fn told_of(told: Result<HartAcceptance, Fault>) -> HartAcceptance
     }
 }
 
-/// Returns a reply that is accepted, or the reason why none is, as numbers for C.
+/// Returns an accepted reply, or the reason why none was accepted, as a `HartAcceptance`.
 pub(crate) fn acceptance_of(accepted: Result<Reply, Unaccepted>) -> HartAcceptance
     ensures { result ≡ acceptance_of (Ok accepted) }
 {
@@ -107,7 +107,7 @@ pub(crate) fn acceptance_of(accepted: Result<Reply, Unaccepted>) -> HartAcceptan
     }
 }
 
-/// Returns the result of a call that accepted no reply. `fault` is 0 if the call had no fault.
+/// Returns the result of a call that accepted no reply, with this fault and this reason. `fault` is 0 if the call had no fault.
 fn not_accepted(fault: u8, reason: u8) -> HartAcceptance
     ensures { result ≡ record { is_accepted = false; code = 0; status = 0; fault = fault; reason = reason } }
 {
@@ -120,7 +120,8 @@ fn not_accepted(fault: u8, reason: u8) -> HartAcceptance
     }
 }
 
-/// Returns what became of a request, and shows the frame of an accepted reply in `reply`.
+/// Judges a delivery as the reply to a request, and writes the frame of an accepted reply to `reply`. Returns the result, or the first
+/// fault.
 fn accept(
     request: &HartFrame,
     heard: &[HartChar],
@@ -146,8 +147,8 @@ fn accept(
     Ok(told)
 }
 
-/// Writes the only frame of a delivery to `frame`, or returns why there is no such frame.
-// In a call of its own the second frame takes no stack while the first one is judged.
+/// Writes the only frame of a delivery to `frame`, or returns why there is no such frame. This is a separate call, so that the frames of
+/// the search take no stack while the found frame is judged.
 #[inline(never)]
 fn find_alone(heard: &[HartChar], frame: &mut HartFrame) -> Result<(), Unaccepted>
     requires { HaveFaultBits heard.now }
@@ -168,7 +169,7 @@ fn find_alone(heard: &[HartChar], frame: &mut HartFrame) -> Result<(), Unaccepte
     Ok(())
 }
 
-/// What a request asks for in a reply. It is small, so that it costs little stack.
+/// The parts of a request by which its reply is recognized. This struct is small, so that it costs little stack.
 #[derive(Clone, Copy)]
 pub(crate) struct Asked {
     /// The master that sent the request.
@@ -225,7 +226,7 @@ pub extern "C" fn hart_unique_of(command: u8, payload: &[u8]) -> HartUnique
     given_of(unique_of(&reply))
 }
 
-/// Returns the numbers of a unique address.
+/// Returns a unique address as a `HartUnique`, or `NO_ADDRESS` if there is no unique address.
 fn given_of(address: Option<Address>) -> HartUnique
     ensures given { result ≡ given_of address }
     ensures expanded_type { result.expanded_type < 2 ^ 14 }

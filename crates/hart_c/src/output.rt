@@ -17,7 +17,7 @@ pub(crate) fn put(bytes: &[u8], output: &mut [u8]) -> Result<usize, Fault>
     Ok(bytes.len())
 }
 
-/// Returns the result of a call as numbers for C: a number of bytes, or the fault.
+/// Returns the result of a call as a `HartOutcome`: a number of bytes, or the fault.
 pub(crate) fn outcome_of(written: Result<usize, Fault>) -> HartOutcome
     ensures { result ≡ outcome_of written }
 {

@@ -25,21 +25,22 @@ const MOST_DATA: usize = 253;
 #[repr(C)]
 #[derive(Clone, Copy)]
 pub struct HartHearing {
-    /// The length of the reply, or 0 if the device is silent, if the request is the maker's, or if there is a fault.
+    /// The length of the reply. It is 0 if the device is silent, if the request asks for a command of the maker's own, or if there is a
+    /// fault.
     pub len: usize,
-    /// Whether the delivery asks a command of the maker's own.
+    /// Whether the delivery asks for a command of the maker's own.
     pub is_own: bool,
     /// The number of the fault, or 0 if there is no fault.
     pub fault: u8,
 }
 
-/// Does as [`hart_hear`](crate::hart_hear) does, except for a request to the device's unique address whose command is in `own` and in no
-/// table. Such a request is written to `asked`, and neither the device nor `reply` changes. The caller carries the request out, and then
-/// calls [`hart_answer`].
+/// Does as [`hart_hear`](crate::hart_hear) does, except for a request to the device's unique address whose command is in `own` and is not
+/// known to this library. Such a request is written to `asked`, and neither the device nor `reply` changes. The caller carries the request
+/// out, and then calls [`hart_answer`].
 ///
 /// # Errors
 ///
-/// Those of [`hart_hear`](crate::hart_hear). `device`, `asked` and `reply` are then unchanged.
+/// The faults of [`hart_hear`](crate::hart_hear). `device`, `asked` and `reply` are then unchanged.
 #[unsafe(no_mangle)]
 pub extern "C" fn hart_hear_own(
     identity: &HartIdentity,
@@ -69,9 +70,9 @@ pub extern "C" fn hart_hear_own(
     }
 }
 
-/// Returns the frame of a delivery that asks a listed command of the maker's own, or `None` if there is none, or if a check of the device,
-/// the process or the delivery fails.
-// In a call of its own the delivery takes no stack while the device hears it.
+/// Returns the frame of a delivery that asks for a command in the list `own`. Returns `None` if the delivery has no such frame, or if a
+/// check of the device, the process or the delivery fails. This is a separate call, so that the delivery takes no stack while the device
+/// hears it.
 #[inline(never)]
 fn own_request(
     identity: &HartIdentity,
@@ -98,21 +99,21 @@ fn own_request(
     }
 }
 
-/// Returns true if a frame asks a command of the maker's own that is in this list.
+/// Returns true if a frame asks for a command of the maker's own that is in the list `own`.
 fn asks_listed(state: &Device<ImageRegisters>, own: &[u8], frame: &Frame) -> bool
     ensures { result ≡ asks_listed state.now «own».now frame.now }
 {
     state.asks_own(frame) && own.contains(&frame.command())
 }
 
-/// Writes the reply to a request that the maker has carried out: this response code, the device status, and these data. If `is_write` is
-/// true, the command counts as a configuration write. Updates `device`, and returns the length of the message.
+/// Writes the reply to a request that the caller has carried out. The reply has this response code, the device status and these data. If
+/// `is_write` is true, the command counts as a configuration write. Updates `device`, and returns the length of the message.
 ///
 /// # Errors
 ///
 /// The first of these that holds: a fault of the identity, a fault of the kept device, a process without dynamic variables or with more
-/// than four, a fault of the frame, a frame that asks no command of the maker's own of this device, a code above 127, more than 253 data
-/// bytes, or no room for the reply. `device` and `reply` are then unchanged.
+/// than four, a fault of the frame, a frame that asks for no command of the maker's own of this device, a code above 127, more than 253
+/// data bytes, or no room for the reply. `device` and `reply` are then unchanged.
 #[unsafe(no_mangle)]
 pub extern "C" fn hart_answer(
     identity: &HartIdentity,
@@ -131,7 +132,7 @@ pub extern "C" fn hart_answer(
     ))
 }
 
-/// Writes the reply to a request that the maker has carried out, and returns its length.
+/// Writes the reply to a request that the caller has carried out, and returns the length of the message, or the first fault.
 fn answer(
     identity: &HartIdentity,
     process: &HartProcess,

@@ -13,12 +13,12 @@ use hart_values::PackedText;
 /// The maximum number of characters of a packed text.
 const MOST_TEXT: usize = 32;
 
-/// Packs a text into all bytes of `packed`, which has 6, 12 or 24 of them, and fills it up with spaces. Returns the length of `packed`.
+/// Packs a text, filled up with spaces, into all bytes of `packed`, which has 6, 12 or 24 bytes. Returns the length of `packed`.
 ///
 /// # Errors
 ///
-/// The first of these that holds: another length of `packed`, a text that is too long for it (8, 16 or 32 characters fit), or a character
-/// outside hex 20 to 5F. `packed` is then unchanged.
+/// The first of these that holds: a `packed` of another length, a text that is too long for `packed` (8, 16 or 32 characters fit), or a
+/// character outside hex 20 to 5F. `packed` is then unchanged.
 #[unsafe(no_mangle)]
 pub extern "C" fn hart_pack_text(text: &[u8], packed: &mut [u8]) -> HartOutcome
     ensures { PackOutcome text.now packed.old packed.new result }
@@ -26,7 +26,7 @@ pub extern "C" fn hart_pack_text(text: &[u8], packed: &mut [u8]) -> HartOutcome
     outcome_of(pack(text, packed))
 }
 
-/// Packs a text into all bytes of `packed`, and returns their number.
+/// Packs a text into all bytes of `packed`. Returns the number of these bytes, or the first fault.
 fn pack(text: &[u8], packed: &mut [u8]) -> Result<usize, Fault>
     ensures passed { IfOk result (λ len. AllPass (pack_checks text.now (length packed.old))) }
     ensures packed { IfOk result (λ len. (len ≡ length packed.old)
@@ -42,7 +42,7 @@ fn pack(text: &[u8], packed: &mut [u8]) -> Result<usize, Fault>
     }
 }
 
-/// Packs a text into `N` bytes.
+/// Packs a text into the `N` bytes of `packed`. Returns `N`, or the first fault.
 fn pack_into<const N: usize>(text: &[u8], packed: &mut [u8]) -> Result<usize, Fault>
     requires size { IsPackedSize N }
     requires room { length packed.old ≡ N }
@@ -72,11 +72,11 @@ fn padded(text: &[u8]) -> [u8; MOST_TEXT]
     whole
 }
 
-/// Writes the text of 6, 12 or 24 bytes of packed text to the front of `text`: 8, 16 or 32 characters. Returns their number.
+/// Writes the text of 6, 12 or 24 bytes of packed text to the front of `text`: 8, 16 or 32 characters. Returns the number of characters.
 ///
 /// # Errors
 ///
-/// The first of these that holds: another length of `packed`, or no room. `text` is then unchanged.
+/// The first of these that holds: a `packed` of another length, or no room. `text` is then unchanged.
 #[unsafe(no_mangle)]
 pub extern "C" fn hart_unpack_text(packed: &[u8], text: &mut [u8]) -> HartOutcome
     ensures { UnpackOutcome packed.now text.old text.new result }
@@ -84,7 +84,7 @@ pub extern "C" fn hart_unpack_text(packed: &[u8], text: &mut [u8]) -> HartOutcom
     outcome_of(unpack(packed, text))
 }
 
-/// Writes the text of packed text to the front of `text`, and returns its length.
+/// Unpacks `packed` to the front of `text`. Returns the length of the text, or the first fault.
 fn unpack(packed: &[u8], text: &mut [u8]) -> Result<usize, Fault>
     ensures written { IfOk result (IsWritten (λ text. IsPacked text packed.now) text.old text.new) }
     ensures size { IfOk result (λ len. IsPackedSize (length packed.now)) }
@@ -99,7 +99,7 @@ fn unpack(packed: &[u8], text: &mut [u8]) -> Result<usize, Fault>
     }
 }
 
-/// Writes the text of `N` bytes of packed text.
+/// Writes the text of `N` bytes of packed text to the front of `text`. Returns the length of the text, or the first fault.
 fn unpack_from<const N: usize>(packed: &[u8], text: &mut [u8]) -> Result<usize, Fault>
     requires size { IsPackedSize N }
     requires len { length packed.now ≡ N }

@@ -1,4 +1,4 @@
-//! What a device measures, as numbers for C.
+//! What a device measures, as C structs.
 ghost use Rattle.std.specs.Prelude.{◌≡◌, ◌≤◌, ◌↔◌, IsSome, IfSome, length, map};
 ghost use Rattle.hart_device.specs.Bench.{bench_process};
 ghost use Rattle.hart_c.specs.Numbers.{HasVariables, IsProcessOf, output_of, sensor_of, variable_of};
@@ -81,7 +81,7 @@ pub struct HartProcess {
     pub output: HartOutput,
 }
 
-/// The numbers of an unused variable.
+/// The `HartVariable` of an unused variable.
 const NO_VARIABLE: HartVariable = HartVariable {
     classification: 0,
     unit: 0,
@@ -109,7 +109,7 @@ pub extern "C" fn hart_bench_process(process: &mut HartProcess)
     };
 }
 
-/// Returns the numbers of a variable.
+/// Returns a variable as a `HartVariable`.
 fn variable_shown(variable: &ProcessVariable) -> HartVariable
     ensures { variable_of result ≡ variable.now }
 {
@@ -121,7 +121,7 @@ fn variable_shown(variable: &ProcessVariable) -> HartVariable
     }
 }
 
-/// Returns the numbers of a sensor.
+/// Returns a sensor as a `HartSensor`.
 fn sensor_shown(sensor: &SensorContent) -> HartSensor
     ensures { sensor_of result ≡ sensor.now }
 {
@@ -134,7 +134,7 @@ fn sensor_shown(sensor: &SensorContent) -> HartSensor
     }
 }
 
-/// Returns the numbers of a loop current output.
+/// Returns a loop current output as a `HartOutput`.
 fn output_shown(output: &OutputValues) -> HartOutput
     ensures { output_of result ≡ output.now }
 {
@@ -149,7 +149,7 @@ fn output_shown(output: &OutputValues) -> HartOutput
     }
 }
 
-/// Returns the process that these numbers describe, or `None` if they have no variable or more than four.
+/// Returns the process that this `HartProcess` describes, or `None` if it has no variable, or more than four.
 pub(crate) fn process_of(given: &HartProcess) -> Option<Process>
     ensures accepted { IsSome result ↔ HasVariables given.now }
     ensures same { IfSome result (IsProcessOf given.now) }
@@ -169,7 +169,7 @@ pub(crate) fn process_of(given: &HartProcess) -> Option<Process>
     })
 }
 
-/// Returns the variables that these numbers describe.
+/// Returns the variables that these structs describe.
 fn variables_of(given: &[HartVariable]) -> ShortList<ProcessVariable, 3>
     requires { length given.now ≤ 3 }
     ensures { result ≡ map variable_of given.now }
@@ -181,7 +181,7 @@ fn variables_of(given: &[HartVariable]) -> ShortList<ProcessVariable, 3>
     variables
 }
 
-/// Returns the process variable that these numbers describe.
+/// Returns the process variable that this `HartVariable` describes.
 fn variable_of(given: &HartVariable) -> ProcessVariable
     ensures { result ≡ variable_of given.now }
 {
@@ -193,7 +193,7 @@ fn variable_of(given: &HartVariable) -> ProcessVariable
     }
 }
 
-/// Returns the sensor that these numbers describe.
+/// Returns the sensor that this `HartSensor` describes.
 fn sensor_of(given: &HartSensor) -> SensorContent
     ensures { result ≡ sensor_of given.now }
 {
@@ -206,7 +206,7 @@ fn sensor_of(given: &HartSensor) -> SensorContent
     }
 }
 
-/// Returns the loop current output that these numbers describe.
+/// Returns the loop current output that this `HartOutput` describes.
 fn output_of(given: &HartOutput) -> OutputValues
     ensures { result ≡ output_of given.now }
 {

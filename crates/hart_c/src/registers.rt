@@ -1,4 +1,4 @@
-//! The initial values of the registers of a device, as numbers for C.
+//! The initial values of the registers of a device, as a C struct.
 ghost use Rattle.std.specs.Prelude.{◌≡◌, ◌<◌, ◌↔◌, IsSome, IfSome};
 ghost use Rattle.hart_commands.specs.Registers.{AreValid};
 ghost use Rattle.hart_device.specs.Bench.{bench_values};
@@ -14,7 +14,7 @@ use hart_values::{HartDate, LoopMode, PackedText, PollingAddress};
 pub struct HartRegisters {
     /// The polling address, at most 63.
     pub polling_address: u8,
-    /// The loop current mode: 1 if the loop current follows the process, 0 if it is held.
+    /// The loop current mode: 1 if the loop current follows the process, 0 if the loop current is held.
     pub loop_current_mode: u8,
     /// The message, 32 characters of packed text.
     pub message: [u8; 24],
@@ -48,7 +48,7 @@ pub extern "C" fn hart_bench_registers(registers: &mut HartRegisters)
     registers.long_tag = values.long_tag;
 }
 
-/// Returns the register values that these numbers describe, or `None` if a register would hold invalid bytes.
+/// Returns the register values that this `HartRegisters` describes, or `None` if a register would hold invalid bytes.
 pub(crate) fn values_of(given: &HartRegisters) -> Option<RegisterValues>
     ensures accepted { IsSome result ↔ AreValid (contents_of given.now) }
     ensures same { IfSome result (λ values. values_of values ≡ contents_of given.now) }

@@ -55,7 +55,7 @@ pub extern "C" fn hart_accept_frame(request: &HartFrame, frame: &HartFrame) -> H
     told_of(accept_frame(request, frame))
 }
 
-/// Returns true if a frame answers a request.
+/// Returns whether a frame is the reply to a request, or the first fault of the checks.
 fn is_match(request: &HartFrame, frame: &HartFrame) -> Result<bool, Fault>
     ensures passed { IfOk result (λ is. AllPass (match_checks request.now frame.now)) }
     ensures matches { IfOk result (λ is. IsTrue is ↔ MatchesFrame (frame_in request.now) (frame_in frame.now)) }
@@ -66,7 +66,8 @@ fn is_match(request: &HartFrame, frame: &HartFrame) -> Result<bool, Fault>
     Ok(matches_frame(&request, &frame))
 }
 
-/// Returns the frame that these numbers describe if it is a request of a master, of any command.
+/// Returns the frame that this `HartFrame` describes, if it is a request of a master, of any command. Otherwise returns the first fault of
+/// the checks.
 pub(crate) fn request_frame(request: &HartFrame) -> Result<Frame, Fault>
     ensures same { IfOk result (λ frame. frame ≡ frame_in request.now) }
     ensures passed { IfOk result (λ frame. AllPass (request_frame_checks request.now)) }
@@ -79,7 +80,7 @@ pub(crate) fn request_frame(request: &HartFrame) -> Result<Frame, Fault>
     Ok(frame)
 }
 
-/// Returns whether a frame is a reply, as numbers for C.
+/// Returns whether a frame is the reply to a request, or the fault, as a `HartMatch`.
 fn match_of(is_reply: Result<bool, Fault>) -> HartMatch
     ensures { result ≡ match_of is_reply }
 {
@@ -95,7 +96,8 @@ fn match_of(is_reply: Result<bool, Fault>) -> HartMatch
     }
 }
 
-/// Returns what a frame brings a master with this request.
+/// Judges a frame as the reply to a master's request. Returns the code and the status of the reply, or the reason why the frame is not
+/// accepted, or the first fault.
 fn accept_frame(request: &HartFrame, frame: &HartFrame) -> Result<HartAcceptance, Fault>
     ensures accepted { IfOk result (λ told. (said : Result Reply Unaccepted) × AcceptsFrame request.now frame.now said
         × (told ≡ acceptance_of (Ok said))) }
@@ -106,8 +108,8 @@ fn accept_frame(request: &HartFrame, frame: &HartFrame) -> Result<HartAcceptance
     Ok(judged(request, &frame))
 }
 
-/// Returns what a frame brings a master with this request, as numbers for C.
-// In a call of its own the parts of the reply take no stack while a delivery is searched.
+/// Judges a frame as the reply to a master's request, and returns the result as a `HartAcceptance`. This is a separate call, so that the
+/// parts of the reply take no stack while a delivery is searched.
 #[inline(never)]
 pub(crate) fn judged(asked: Asked, frame: &Frame) -> HartAcceptance
     ensures { (request : Request) → command_of request ≡ asked.command → (said : Result Reply Unaccepted)
@@ -116,7 +118,7 @@ pub(crate) fn judged(asked: Asked, frame: &Frame) -> HartAcceptance
     acceptance_of(judge(asked, frame))
 }
 
-/// Returns the reply that a frame brings a master with this request, or why it brings none.
+/// Returns the reply that a frame brings to a master's request, or the reason why the frame is not accepted.
 fn judge(asked: Asked, frame: &Frame) -> Result<Reply, Unaccepted>
     ensures { (request : Request) → command_of request ≡ asked.command
         → IsJudged asked.master asked.address request frame.now result }

@@ -45,7 +45,7 @@ unsaid None preambles old new len counts said none = refl
 unsaid (Some reply) preambles old new len counts said none =
     grind (arith, common_steps, length-append, length-replicate)
 
--- what a device hears in a delivery, once all checks are passed
+-- all checks are passed: what the device hears in the delivery
 abbrev hearing : (c : In_ok-process) → IsProcessOf c.args.process.now c.in_ok-process.process
     → AllPass (heard_checks c.args.heard.now) → IsHearing c.args.identity.now c.args.process.now c.args.heard.now c.args.device.now
 hearing c process_is delivery =

@@ -60,7 +60,7 @@ next_of_all n chars finished ended given used (inl going) next =
 next_of_all n chars finished ended given used (inr (over, all)) next =
     next_frames_are_all-ended chars finished 0 used given ended (λ _. over) (rw (all, take-length) at next)
 
--- the outcome of a search: either its scanner goes on, or the input ended and all its characters were searched
+-- the search ends in one of two ways: the scanner waits for more, or the input has ended and all characters were searched
 finds_more : (n count : ℕ) (chars : List Character) (ended : Bool) (before after : List HartFrame)
     (scan : Scan) → n ≤ length chars → count ≤ length after → drop count after ≡ drop count before → All IsTidy (take count after)
     → (scan.finished ≡ false) ⊎ (IsTrue ended × (n ≡ length chars)) → IsHistory (take n chars) scan (map found_in (take count after))

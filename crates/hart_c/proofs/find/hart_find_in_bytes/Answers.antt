@@ -11,7 +11,7 @@ use Rattle.hart_c.specs.Numbers.{IsTidy, found_in}
 use Rattle.hart_c.specs.declared.frame.HartFrame.{HartFrame}
 use Rattle.hart_c.proofs.find.hart_find_in_bytes.Goals as goal
 
--- the outcome of a search that filled its room, or that left at most 268 bytes in which no frame is decided
+-- the search ends in one of two ways: no more frames have room, or at most 268 bytes are left and decide no frame
 finds_next : (bytes : List ℕ) (ended : Bool) (before after : List HartFrame) (used count : ℕ) → count ≤ length after
     → drop count after ≡ drop count before → All IsTidy (take count after)
     → AreNext (faultless bytes) ended 0 (map found_in (take count after)) used

@@ -12,7 +12,7 @@ use Rattle.hart_c.specs.declared.data.HartField.{HartField}
 use Rattle.hart_c.specs.declared.data.HartReading.{HartReading}
 use Rattle.hart_c.proofs.laws.bytes_that_are_not_taken_are_ignored.Goals as goal
 
--- taking the first `n` bytes twice is taking them once
+-- taking the first `n` bytes twice gives the same as taking them once
 again : (n : ℕ) (bytes : List ℕ) → take n (take n bytes) ≡ take n bytes
 again n bytes = take_all n (take n bytes) (omega (arith, length-take n bytes))
 
@@ -20,7 +20,7 @@ again n bytes = take_all n (take n bytes) (omega (arith, length-take n bytes))
 as_many : (n : ℕ) (bytes : List ℕ) → take (length (take n bytes)) bytes ≡ take n bytes
 as_many n bytes = rw length-take (take_min n bytes)
 
--- a shorter payload with the same reply has the same outcome
+-- a payload that is cut after the taken bytes has the same reply and the same outcome
 reply_alike : (command : ℕ) (payload front : List ℕ) (reply : Reply) (before after : List HartField) (reading : HartReading)
     → reply_reading command payload ≡ Some reply → reply_reading command front ≡ Some reply
     → ReplyOutcome command payload before after reading
@@ -47,7 +47,7 @@ pub returns-clause-two : goal.returns-clause-two
 returns-clause-two c command payload reply before after reading read told =
     let taken = (reply_alike command payload payload reply before after reading read read told).0 in omega (arith, taken)
 
--- shorter data with the same request and the same first bytes have the same outcome
+-- data that are cut after the taken bytes have the same request and the same outcome
 request_alike : (command : ℕ) (bytes front : List ℕ) (request : Request) (before after : List HartField) (reading : HartReading)
     → request_reading command bytes ≡ Ok request → request_reading command front ≡ Ok request
     → take (length (request_data request)) front ≡ take (length (request_data request)) bytes

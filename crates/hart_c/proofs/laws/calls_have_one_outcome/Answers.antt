@@ -60,7 +60,7 @@ returns-clause-new_devices c given before after other outcome another =
     one_outcome (λ is again. let parts : IdentityParts = grind (arith, common_steps) in grind (arith, is.1.4 parts, again.1.4 parts))
     (λ is why. grind (arith, is.1.3)) (λ why is. grind (arith, is.1.3)) (λ why again. grind arith)
 
--- for a device that hears a delivery while it measures a process
+-- the lemmas for a device that hears a delivery while it measures a process
 module _ (identity : HartIdentity) (process : HartProcess) (heard : List HartChar) (device : HartDevice) where
   -- the numbers determine the state, the process and what the delivery brings
   one_hearing : (is again : IsHearing identity process heard device)
@@ -109,7 +109,7 @@ returns-clause-hear c identity process heard before after other old new newer ou
 accept_sound : (numbers : HartFrame) (heard : List HartChar) → AreSound (accept_checks numbers heard)
 accept_sound numbers heard = search (rules, needs-sound)
 
--- a frame asks one request
+-- a frame asks at most one request
 one_asked : (frame : FrameParts) (request other : Request) → IsAsked frame request → IsAsked frame other → request ≡ other
 one_asked frame request other is again = let read = is.reading in let same = again.reading in cc
 
@@ -136,7 +136,7 @@ same_accepted numbers heard before after other (Ok reply) (Err reason) is again 
 same_accepted numbers heard before after other (Ok reply) (Ok another) is again =
     grind (arith, common_steps, frames_are_unambiguous-one_list, replies_are_decided-one_reply)
 
--- what a frame is to a request is determined by the numbers
+-- the numbers determine whether the frame is accepted as a reply to the request, and if not, why
 same_judged : (numbers heard : HartFrame) (said tale : Result Reply Unaccepted) → AcceptsFrame numbers heard said
     → AcceptsFrame numbers heard tale → said ≡ tale
 same_judged numbers heard (Err reason) (Err another) is again =

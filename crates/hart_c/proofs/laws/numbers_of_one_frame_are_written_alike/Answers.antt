@@ -26,7 +26,7 @@ is_message : (parts others : FrameParts) (preambles : ℕ) → others ≡ parts 
 is_message parts others preambles same {message} =
     let P : FrameParts → Type 0 = λ these. IsMessage these preambles message in subst P (sym same)
 
--- for two structs of numbers that show the same frame
+-- the lemmas for two structs of numbers that show the same frame
 module _ (frame other : HartFrame) (same : frame_in other ≡ frame_in frame) (long : other.expansion_len ≡ frame.expansion_len) where
   address : address_of other.is_unique other ≡ address_of frame.is_unique frame
   address = ap (λ (parts : FrameParts). parts.address) same

@@ -32,7 +32,7 @@ returns-clause-hear c identity process own heard before after other shown asked 
     (record { len = told.len; fault = told.fault }) (record { len = another.len; fault = another.fault }) is.3 same.3 in
     (grind (arith, one.0, is.1, same.1), one.1, ap found_in (is.2 ∙ sym same.2), one.2)
 
--- for a device that answers a request of the maker's own
+-- the lemmas for a device that answers a request of the maker's own
 module _ (identity : HartIdentity) (process : HartProcess) (asked : HartFrame) (code : ℕ) (is_write : Bool) (bytes : List ℕ)
     (device : HartDevice) where
   -- the numbers determine the state and the process

@@ -1,10 +1,8 @@
-use Rattle.std.proofs.Common.{◌≡◌, Bool, true, false, inl, inr, ℕ, List, Result, Ok, Err, [], ◌∷◌, ◌++◌, All, arith, map, refl}
+use Rattle.std.proofs.Common.{◌≡◌, true, inl, inr, List, Result, Ok, Err, [], ◌++◌, All, arith, map, refl}
 use Rattle.std.proofs.Common.{subst, sym, take}
 use Rattle.std.proofs.lemmas.Grind.{common_steps}
 use Rattle.std.proofs.lemmas.List.Elements.{All-head}
 use Rattle.hart_frame.specs.declared.heard.found.Found.{Found}
-use Rattle.hart_frame.specs.heard.Character.{Character}
-use Rattle.hart_frame.specs.wire.Body.{IsBody}
 use Rattle.hart_frame.specs.declared.wire.fault.FrameFault.{FrameFault}
 use Rattle.hart_commands.specs.declared.reply.Reply.{Reply}
 use Rattle.hart_frame.proofs.lemmas.Laws.{every_list_has_frames}
@@ -31,7 +29,7 @@ returns-clause-found c chars ended before after search finds index other within 
     let body = has (take search.count after) _ all index other within in
     shown _ body.0 body.1 (finds.tidy index other within)
 
--- no fault has the number 0
+-- the number of a fault is never 0
 a_fault : (fault : FrameFault) → frame_fault_number fault ≡ 0 → ⊥
 a_fault fault is = grind arith
 

@@ -3,9 +3,13 @@ use Rattle.std.proofs.lemmas.Grind.{common_steps}
 use Rattle.hart_values.specs.packed_text.Packing.{IsPacked}
 use Rattle.hart_values.proofs.lemmas.Laws.{packed_text_and_bytes_determine_each_other-one_list}
 use Rattle.hart_values.proofs.lemmas.Laws.{packed_text_and_bytes_determine_each_other-one_text}
-use Rattle.hart_c.specs.Messages.{HasNoRoom, IsWritten}
-use Rattle.hart_c.specs.Texts.{pack_checks, padded, unpack_checks}
+use Rattle.hart_c.specs.Explain.{IsStyle, explain_checks, explained}
+use Rattle.hart_c.specs.Faults.{AllPass}
+use Rattle.hart_c.specs.Messages.{HasNoRoom, IsFrame, IsWritten}
+use Rattle.hart_c.specs.Numbers.{found_in}
+use Rattle.hart_c.specs.Texts.{pack_checks, unpack_checks}
 use Rattle.hart_c.proofs.Checks.{AreSound, first_none, first_one, needs-sound, refused_if-sound}
+use Rattle.hart_c.specs.declared.frame.HartFrame.{HartFrame}
 use Rattle.hart_c.proofs.Marked.{one_unmarked}
 use Rattle.hart_c.proofs.Said.{one_outcome}
 use Rattle.hart_c.proofs.laws.texts_have_one_outcome.Goals as goal
@@ -20,7 +24,7 @@ returns-clause-pack c text before after other outcome another =
     (λ why is. first_none checks sound is.1.0 why.0 why.1)
     (λ why again. grind (arith, first_one checks sound why.0 again.0))
 
--- a text is written in one way
+-- packed bytes can be written as only one text
 one_text : (packed old new newer : List ℕ) (len size : ℕ) → IsWritten (λ text. IsPacked text packed) old new len
     → IsWritten (λ text. IsPacked text packed) old newer size → (len ≡ size) × (new ≡ newer)
 one_text packed old new newer len size is again =
@@ -44,3 +48,20 @@ returns-clause-unpack c packed before after other outcome another =
 
 pub returns-clause-unmark : goal.returns-clause-unmark
 returns-clause-unmark c bytes before after other told another = one_unmarked bytes before after other told another
+
+-- a frame that is explained passes all checks
+explained_passes : (style : ℕ) (frame : HartFrame) (before after : List ℕ) (len : ℕ)
+    → IsFrame frame → IsStyle style → IsWritten (λ text. text ≡ explained style (found_in frame)) before after len
+    → AllPass (explain_checks style frame (length before))
+explained_passes style frame before after len (address, (expansion, (payload, end))) known is =
+    (address, (expansion, (payload, (known, (λ none. grind (arith, is.1, none.1), tt)))))
+
+pub returns-clause-explain : goal.returns-clause-explain
+returns-clause-explain c style frame before after other outcome another =
+    let checks = explain_checks style frame (length before) in
+    let sound : AreSound (explain_checks style frame (length before)) = search (rules, needs-sound, refused_if-sound) in
+    one_outcome
+    (λ is again. grind (arith, is.1.2.1, again.1.2.1))
+    (λ is why. first_none checks sound (explained_passes style frame before after is.0 is.1.0 is.1.1 is.1.2) why.0 why.1)
+    (λ why is. first_none checks sound (explained_passes style frame before other is.0 is.1.0 is.1.1 is.1.2) why.0 why.1)
+    (λ why again. grind (arith, first_one checks sound why.0 again.0))

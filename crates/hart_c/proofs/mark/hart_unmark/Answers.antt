@@ -6,7 +6,7 @@ use Rattle.hart_c.specs.Marks.{AreMarked, IsMarked, next, none}
 use Rattle.hart_c.specs.declared.find.HartChar.{HartChar}
 use Rattle.hart_c.proofs.mark.hart_unmark.Goals as goal
 
--- one more character and its bytes
+-- the next character and its bytes are added to what was read
 marked_next : (bytes : List ℕ) (heard : List HartChar) (used len count : ℕ) (char : HartChar) → len < length heard
     → IsMarked (take count (drop used bytes)) char → AreMarked (take used bytes) (take len heard)
     → AreMarked (take (used + count) bytes) (take (len + 1) (slice_set heard len char))

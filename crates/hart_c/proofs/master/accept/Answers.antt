@@ -1,5 +1,4 @@
 use Rattle.std.proofs.Common.{◌≡◌, ap, arith, map, refl, rules, subst, sym, Bool, List, [], ◌∷◌, Ok, Err, Result, true, false}
-use Rattle.std.proofs.lemmas.Grind.{common_steps}
 use Rattle.std.specs.Prelude.{if◌then◌else◌, not}
 use Rattle.hart_frame.specs.declared.scan.first.LoneFrame.TheVariants.{Alone}
 use Rattle.hart_frame.specs.heard.Frames.{AreFrames}
@@ -38,7 +37,7 @@ accepts numbers heard before found after (Err reason) request passed asked alone
   reply = ((Alone (found_in found), alone, judged), is);
 }
 
--- what a frame that was found becomes if a reply is accepted or not
+-- the output shows the frame that was found if a reply is accepted, and is unchanged otherwise
 shown_if : (is : Bool) (found before : HartFrame) → is ≡ true → found ≡ (if is then found else before)
 shown_if true found before accepted = refl
 shown_if false found before accepted = absurd cc
@@ -47,7 +46,7 @@ kept_if : (is : Bool) (found before : HartFrame) → is ≡ false → before ≡
 kept_if true found before accepted = absurd cc
 kept_if false found before accepted = refl
 
--- whether a reply is accepted, as numbers for C
+-- two equal results both say that a reply is accepted, or neither does
 accepted_of : (told other : HartAcceptance) → told ≡ other → not told.is_accepted ≡ false → other.is_accepted ≡ true
 accepted_of told other same is = grind arith
 

@@ -60,7 +60,7 @@ returns-then-not-asks_own-clause-refused c =
     ) in
     after_frame _ _ _ _ _ _ _ _ _ c.in_ok-state.state kept measured.count c.in_ok-frame.ensures.frame (inl (none, refl))
 
--- what a device answers to, once all checks of the numbers are passed
+-- all checks of the numbers are passed: what the device answers
 abbrev answering : (c : In_ok-frame) → IsProcessOf c.args.process.now c.in_ok-process.process
     → asks_own c.in_ok-state.state (frame_in c.args.asked.now) ≡ true
     → IsOwnAnswer c.args.identity.now c.args.process.now c.args.asked.now c.args.device.now
@@ -89,7 +89,7 @@ identity_stays : (is_write : Bool) (master : MasterId) (state : DeviceState)
 identity_stays true master state = refl
 identity_stays false master state = refl
 
--- for a device that answers a request of the maker's own
+-- the lemmas for a device that answers a request of the maker's own
 module _ (identity : HartIdentity) (process : HartProcess) (asked : HartFrame) (code : ℕ) (is_write : Bool) (bytes : List ℕ)
     (before : HartDevice) (answer : IsOwnAnswer identity process asked before) (said : FrameParts) (next : DeviceState)
     (code_is : code < 128) (few : length bytes ≤ 253)
@@ -103,7 +103,7 @@ module _ (identity : HartIdentity) (process : HartProcess) (asked : HartFrame) (
   counts : next.identity.response_preambles ≡ identity.response_preambles
   counts = ap (λ (parts : IdentityParts). parts.response_preambles) own
 
-  -- it has answered if its reply is written and its state is kept
+  -- the device has answered if its reply is written and its state is kept
   answered : (after : HartDevice) (old new : List ℕ) (len : ℕ) → IsWritten (IsSaid (Some said) next.identity.response_preambles) old new len
       → after ≡ device_of next → IsDevice next → AnswersOwn identity process asked code is_write bytes before after old new len
   answered after old new len written kept is = record {
@@ -118,7 +118,7 @@ module _ (identity : HartIdentity) (process : HartProcess) (asked : HartFrame) (
         (subst (λ (parts : IdentityParts). IsKept parts (device_of next) next) own (devices_are_kept-kept next is)));
   }
 
-  -- it has no room to answer if it has none for its reply
+  -- the device cannot answer if there is no room for its reply
   unanswered : (room : ℕ) (fault : Fault) → (fault ≡ NoRoom) × HasNoRoom (IsSaid (Some said) next.identity.response_preambles) room
       → IsFirstOf (own_checks identity process asked code is_write bytes before room) fault
   unanswered room fault (told, none) =

@@ -24,17 +24,17 @@ use Rattle.hart_c.proofs.Checks.{first_none, needs-sound}
 use Rattle.hart_c.proofs.Kept.{devices_are_kept-one_state}
 use Rattle.hart_c.proofs.own.own_request.Goals as goal
 
--- a result that is dropped has a fault
+-- if a result is turned into `None`, it was a fault
 failed : {T : Type 0} (result : Result T Fault) (P : Fault → Type 0) → result_ok result ≡ None → IfErr result P → (fault : Fault) × P fault
 failed (Ok done) P none why = absurd cc
 failed (Err fault) P none why = (fault, why)
 
--- what holds of a result that is kept
+-- if a result is turned into `Some`, it was no fault
 succeeded : {T : Type 0} (result : Result T Fault) (P : T → Type 0) (done : T) → result_ok result ≡ Some done → IfOk result P → P done
 succeeded (Ok made) P done is holds = let same : made ≡ done = grind arith in subst P same holds
 succeeded (Err fault) P done is holds = absurd cc
 
--- a device with a fault has no state
+-- if a kept device has a fault, it has no state
 no_state : (identity : HartIdentity) (device : HartDevice) (fault : Fault) → IsFirstOf (state_checks identity device) fault
     → (state : DeviceState) → IsKept (parts_of identity) device state → ⊥
 no_state identity device fault (inl why) state kept = grind (arith, kept.is_identity)

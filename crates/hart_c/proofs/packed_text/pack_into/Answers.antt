@@ -8,7 +8,7 @@ use Rattle.hart_values.specs.packed_text.Packing.{IsCharacter, IsPackedSize}
 use Rattle.hart_c.specs.Texts.{padded}
 use Rattle.hart_c.proofs.packed_text.pack_into.Goals as goal
 
--- the first characters of a text that is filled up are the text, filled up to their number
+-- the first `count` characters of a text that is filled up to 32 are the text, filled up to `count`
 take_padded : (text : List ℕ) (count : ℕ) → length text ≤ count → count ≤ 32 → take count (padded 32 text) ≡ padded count text
 take_padded text count few small =
     grind (
@@ -17,7 +17,7 @@ take_padded text count few small =
       take-replicate {X = ℕ} (count - length text) (32 - length text) 0x20,
     )
 
--- a text has as many characters as it is filled up to
+-- a text that is filled up to `count` characters has `count` characters
 long : (text : List ℕ) (count : ℕ) → length text ≤ count → length (padded count text) ≡ count
 long text count few = grind (arith, length-append, length-replicate)
 
@@ -25,7 +25,7 @@ long text count few = grind (arith, length-append, length-replicate)
 small : (size : ℕ) → IsPackedSize size → 4 * size / 3 ≤ 32
 small size is = grind arith
 
--- a text that is filled up has only characters of packed text, if it had before
+-- filling up a text adds only spaces, which are characters of packed text
 all_padded : (text : List ℕ) (count : ℕ) → All IsCharacter text → All IsCharacter (padded count text)
 all_padded text count all =
     All-append IsCharacter text (replicate (count - length text) 0x20) all
