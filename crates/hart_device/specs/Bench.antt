@@ -1,4 +1,4 @@
--- The bench device: the default device of a program (implementation choice).
+-- The bench device: the device that the program `hart` simulates (implementation choice).
 use Rattle.std.specs.Prelude.{ℕ, List, [], ◌∷◌, ◌++◌, replicate}
 use Rattle.hart_values.specs.hart_date.Calendar.{not_set}
 use Rattle.hart_values.specs.declared.bits32.Bits32.{Bits32}
@@ -29,8 +29,8 @@ bench_identity = record {
 abbrev pub eight_spaces : List ℕ
 eight_spaces = 0x82 ∷ 0x08 ∷ 0x20 ∷ 0x82 ∷ 0x08 ∷ 0x20 ∷ []
 
--- The registers of the bench device begin with polling address 0, the loop current enabled, texts of spaces, a date that is not
--- set, final assembly number 0, and a long tag of spaces.
+-- The initial values of the bench device's registers: polling address 0, loop current enabled, texts of spaces, date not set, final
+-- assembly number 0, long tag of spaces.
 abbrev pub bench_values : RegisterValues
 bench_values = record {
   polling = 0;
@@ -47,8 +47,8 @@ bench_values = record {
 abbrev pub float : ℕ → ℕ → ℕ → ℕ → Bits32
 float a b c d = record { 0 = a ∷ b ∷ c ∷ d ∷ [] }
 
--- The process of the bench device is at 12 mA, 50 percent and 25 degrees Celsius, and has one variable. The limits of the sensor
--- are 0 and 200 degrees, and the range is from 0 to 100.
+-- The process of the bench device: 12 mA, 50 percent of range, and one variable of 25 degrees Celsius. The limits of the sensor are 0 and
+-- 200 degrees, and the range is from 0 to 100.
 abbrev pub bench_process : Process
 bench_process = record {
   loop_current = float 0x41 0x40 0x00 0x00;

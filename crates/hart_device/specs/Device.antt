@@ -1,5 +1,5 @@
--- The state of a device in contracts, and how a command, a reply and a restart change it (HCF_SPEC-099, HCF_SPEC-127). Own profile: Command
--- 38 is no write; a write counts even if the register already holds the same bytes; each master has its own cold start bit.
+-- The state of a device in contracts, and how a command, a reply and a restart change it (HCF_SPEC-099, HCF_SPEC-127). Implementation
+-- choice: Command 38 is no write; a write counts even if the register already holds the same bytes; each master has its own cold start bit.
 use Rattle.std.specs.Prelude.{ℕ, ◌<◌, ◌+◌, ◌%◌, ◌^◌, Bool, true, false}
 use Rattle.hart_values.specs.declared.master_id.MasterId.{MasterId}
 use Rattle.hart_values.specs.EachMaster.{with_master}
@@ -31,8 +31,8 @@ pub record IsDevice (state : DeviceState) : Type 0 where
 abbrev pub for_both : Bool → EachMaster Bool
 for_both bit = record { primary = bit; secondary = bit }
 
--- A new device holds the values that it is given. Its counter is 0, it is not protected, and its configuration-changed bits and
--- cold start bits are clear.
+-- A new device holds the given values. Its counter is 0, it is not write protected, and its configuration-changed bits and cold start bits
+-- are clear.
 abbrev pub new_device : IdentityParts → RegisterValues → DeviceState
 new_device identity values = record {
   identity = identity;
@@ -43,19 +43,18 @@ new_device identity values = record {
   cold_start = for_both false;
 }
 
--- A command has no effect, or executes the overwrite of a configuration write, or resets the configuration-changed bit of the
--- master that asks.
+-- The effect of a command: no effect, the overwrite of a configuration write, or a reset of the asking master's configuration-changed bit.
 pub data Effect : Type 0 where
   Nothing : Effect
   Executes : (overwrite : Overwrite) → Effect
   Resets : Effect
 
--- The state after a configuration write was counted: the counter is one more (65535 is followed by 0), and both masters'
--- configuration-changed bits are set. Nothing else changes.
+-- The state after a configuration write was counted. The counter is one more, with 0 after 65535, and both masters' configuration-changed
+-- bits are set. Nothing else changes.
 abbrev pub counted : DeviceState → DeviceState
 counted state = record state { counter = (state.counter + 1) % 2 ^ 16; changed = for_both true }
 
--- The state after a configuration write overwrote the registers: the write counts even if the registers held the same bytes before.
+-- The state after a configuration write overwrote registers. The write counts even if the registers already held the same bytes.
 abbrev pub written : Overwrite → DeviceState → DeviceState
 written overwrite state = record (counted state) { contents = overwritten overwrite state.contents }
 
@@ -66,10 +65,11 @@ after master Nothing state = state
 after master (Executes overwrite) state = written overwrite state
 after master Resets state = record state { changed = with_master master false state.changed }
 
--- A restart after the device was without power sets both masters' cold start bits. Nothing else changes.
+-- The state after a restart: both masters' cold start bits are set. Nothing else changes.
 abbrev pub restarted : DeviceState → DeviceState
 restarted state = record state { cold_start = for_both true }
 
--- A reply with a response code shows the cold start bit of its master and clears this bit. Nothing else changes.
+-- The state after a reply with a response code to a master. The reply shows this master's cold start bit and clears it. Nothing else
+-- changes.
 abbrev pub after_reply : MasterId → DeviceState → DeviceState
 after_reply master state = record state { cold_start = with_master master false state.cold_start }

@@ -9,8 +9,8 @@ use Rattle.hart_device.specs.declared.identity_parts.IdentityParts.{IdentityPart
 use Rattle.hart_device.specs.declared.fault.DeviceFault.{DeviceFault}
 use Rattle.hart_device.specs.declared.fault.DeviceFault.TheVariants.{BroadcastAddress, OutOfRange}
 
--- The parts of an identity are in range if the device id has at most 24 bits, both numbers of preamble bytes are 5 to 20, the
--- hardware revision has at most 5 bits and the physical signalling code has at most 3.
+-- The parts of an identity are in range if the device id has at most 24 bits, both numbers of preamble bytes are 5 to 20, the hardware
+-- revision has at most 5 bits, and the physical signalling code at most 3 bits.
 pub record AreInRange (parts : IdentityParts) : Type 0 where
   pub device_id : parts.device_id < 2 ^ 24
   pub request_preambles : IsPreambleCount parts.request_preambles
@@ -27,7 +27,8 @@ pub record AreIdentityParts (parts : IdentityParts) : Type 0 where
   pub in_range : AreInRange parts
   pub own_address : ¬ (Unique (own_numbers parts) ≡ broadcast)
 
--- Parts are refused if they are out of range, and otherwise only if the device's unique address is the broadcast address.
+-- Why parts are refused. `OutOfRange`: they are not in range. `BroadcastAddress`: they are in range, but the device's unique address is the
+-- broadcast address.
 abbrev pub IsIdentityFault : IdentityParts → DeviceFault → Type 0
 IsIdentityFault parts OutOfRange = ¬ AreInRange parts
 IsIdentityFault parts BroadcastAddress = AreInRange parts × (Unique (own_numbers parts) ≡ broadcast)

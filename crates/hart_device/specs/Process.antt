@@ -5,7 +5,7 @@ use Rattle.hart_values.specs.declared.bits32.Bits32.{Bits32}
 use Rattle.hart_device.specs.declared.process.Process.{Process}
 use Rattle.hart_device.specs.declared.process.ProcessVariable.{ProcessVariable}
 
--- The dynamic variables of a process, one to four: the first one, and then the others.
+-- The dynamic variables of a process, one to four. The primary variable is the first.
 abbrev pub dynamic_variables : Process → List ProcessVariable
 dynamic_variables process = process.first ∷ process.others
 
@@ -17,7 +17,7 @@ extended_device_status process = slice_index process.additional_status 6
 abbrev pub is_any_set : List ℕ → Bool
 is_any_set bytes = list_any (λ byte. not (byte == 0)) bytes
 
--- More status is available if an additional status byte other than byte 6 is not zero.
+-- Whether more status is available: an additional status byte other than byte 6 is not zero.
 abbrev pub has_more_status : Process → Bool
 has_more_status process = is_any_set (take 6 process.additional_status) || is_any_set (drop 7 process.additional_status)
 
@@ -25,8 +25,8 @@ has_more_status process = is_any_set (take 6 process.additional_status) || is_an
 abbrev pub IsFloat : Bits32 → Type 0
 IsFloat float = length float.0 ≡ 4
 
--- A process is well made if it has at most three dynamic variables beside the first, and each of its parts has the size of its
--- type: four bytes for a float and for the time stamp, 25 for the additional status and three for the serial number of the sensor.
+-- A process is well made if it has at most three dynamic variables beside the first, four bytes in each float and in the time stamp,
+-- 25 bytes of additional status, and three bytes in the serial number of the sensor.
 pub record IsProcess (process : Process) : Type 0 where
   pub loop_current : IsFloat process.loop_current
   pub percent_of_range : IsFloat process.percent_of_range

@@ -1,4 +1,4 @@
--- The answer: which frames the device answers, what it answers, and how a frame changes it.
+-- How a device answers: which frames it answers, what it answers, and how a frame changes it.
 pub mod Status
 pub mod Variables
 pub mod Content

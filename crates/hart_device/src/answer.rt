@@ -28,10 +28,10 @@ mod variables;
 const IDENTIFY: u8 = 0;
 
 impl<S: RegisterStore> Device<S> {
-    /// Hears a delivery, which is all that was heard at once, and returns the reply. If the delivery has exactly one frame, the device
-    /// receives that frame as [`Device::receive`] does. A garbled request is a request to this device that was heard with faults. If the
+    /// Hears a delivery, which is all that was heard at once, and returns the reply. If the delivery has exactly one frame, the call does
+    /// the same as [`Device::receive`] with that frame. A garbled request is a request to this device that was heard with faults. If the
     /// delivery has a garbled request and no frame, the reply has the communication faults of this request, and the device is unchanged.
-    /// For any other delivery the device is silent (`None`) and unchanged.
+    /// After any other delivery the device is silent (`None`) and unchanged.
     ///
     /// ```rust
     /// let mut device: Device<FieldRegisters> = Device::new(
@@ -57,7 +57,7 @@ impl<S: RegisterStore> Device<S> {
     }
 
     /// Returns the communication-fault reply to the garbled request of a delivery, or `None` if there is no such request. Call this
-    /// only for a delivery without a frame, since a whole request also has the form of a garbled request.
+    /// only for a delivery without a frame, since an undamaged request also has the form of a garbled request.
     pub fn reply_to_garbled(&self, delivery: &[Char]) -> Option<Frame>
         ensures reply { MatchOption result ((request : GarbledRequest) → HasGarbled self.now.identity delivery.now request → ⊥)
             (λ reply. (request : GarbledRequest) × HasGarbled self.now.identity delivery.now request
@@ -67,7 +67,7 @@ impl<S: RegisterStore> Device<S> {
         Some(request.reply(&self.identity))
     }
 
-    /// Receives a frame and returns the reply, or `None` if the device is silent. A frame without a reply does not change the device.
+    /// Receives a frame and returns the reply, or `None` if the device is silent. A frame that gets no reply does not change the device.
     ///
     /// The reply describes the state after the command. Whatever its response code, the reply shows the master's cold start bit and clears
     /// this bit. A command with a code other than 0 changes only this bit.
@@ -83,7 +83,7 @@ impl<S: RegisterStore> Device<S> {
         }
     }
 
-    /// Like [`Device::receive`], but writes the reply to `reply` and returns true. If the device is silent, it returns false and
+    /// Like [`Device::receive`], but writes the reply to `reply` and returns true. If the device is silent, the call returns false and
     /// leaves `reply` unchanged.
     pub fn receive_into(&mut self, frame: &Frame, process: &Process, reply: &mut Frame) -> bool
         ensures answers { IsTrue result ↔ IsSome (answer_of self.old process.now frame.now) }
@@ -99,7 +99,7 @@ impl<S: RegisterStore> Device<S> {
         answers
     }
 
-    /// Carries out a frame. Returns true if the device answers it; `payload` then has the payload of the answer.
+    /// Carries out the request of a frame. Returns true if the device answers the frame; `payload` then has the payload of the answer.
     fn answer_into(&mut self, frame: &Frame, process: &Process, payload: &mut Payload) -> bool
         ensures answers { result ≡ is_answered self.old frame.now }
         ensures written { IsTrue result → payload.new ≡ reply_payload (reply_of self.old process.now frame.now) }
@@ -115,7 +115,7 @@ impl<S: RegisterStore> Device<S> {
         true
     }
 
-    /// Judges a frame: returns the request to carry out, or the code that refuses the request, or `None` if the device is silent.
+    /// Judges a frame. Returns the frame's request, or the code that refuses the request. Returns `None` if the device is silent.
     fn judge(&self, frame: &Frame) -> Option<Result<Request, ResponseCode>>
         ensures { MatchOption result (is_answered self.now frame.now ≡ false)
             (λ judged. (is_answered self.now frame.now ≡ true) × (judged ≡ judged_of self.now frame.now)) }
@@ -149,8 +149,7 @@ impl<S: RegisterStore> Device<S> {
             && !(frame.address().is_broadcast() && code != ResponseCode::SUCCESS)
     }
 
-    /// Returns true if the frame is a request without expansion bytes, and the device accepts the frame's command at the frame's
-    /// address.
+    /// Returns true if the frame is a request without expansion bytes, and the device accepts the frame's command at the frame's address.
     fn is_addressed(&self, frame: &Frame) -> bool
         ensures { result ≡ is_addressed self.now frame.now }
     {
@@ -209,7 +208,8 @@ impl<S: RegisterStore> Device<S> {
         }
     }
 
-    /// Executes a configuration write: sets the registers that it names, counts it, and sets the configuration-changed bits.
+    /// Executes a configuration write: sets the registers that the overwrite names, counts the write, and sets the configuration-changed
+    /// bits.
     fn write(&mut self, overwrite: &Overwrite)
         requires { NamesValid overwrite.now }
         ensures { self.new ≡ written overwrite.now self.old }

@@ -1,4 +1,4 @@
-//! The bench device (implementation choice): the default device of a program.
+//! The bench device (implementation choice): the device that the program `hart` simulates.
 ghost use Rattle.std.specs.Prelude.{◌≡◌};
 ghost use Rattle.hart_device.specs.Bench.{bench_identity, bench_process, bench_values};
 

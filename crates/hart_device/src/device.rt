@@ -1,4 +1,4 @@
-//! A device: who it is, and what it holds.
+//! A device: its identity and its state.
 ghost use Rattle.std.specs.Prelude.{◌≡◌, false};
 ghost use Rattle.hart_values.specs.EachMaster.{of_master};
 ghost use Rattle.hart_frame.specs.wire.Message.{IsPreambleCount};
@@ -12,9 +12,9 @@ use std::marker::Model;
 
 /// A HART field device (HCF_SPEC-081, HCF_SPEC-127), generic over the store of its registers.
 ///
-/// In contracts, a device is its identity, the contents of its registers, its configuration change counter, whether it is write protected,
-/// and the configuration-changed bit and the cold start bit of each master. Every register holds bytes that are valid in it, so the image
-/// of a device can always be read.
+/// In contracts, a device is its identity, the contents of its registers, its configuration change counter and write protection, and for
+/// each master a configuration-changed bit and a cold start bit. Every register holds bytes that are valid in it, so the image of a device
+/// can always be read.
 #[derive(Debug, Drop)]
 pub struct Device<S: RegisterStore> {
     pub(crate) identity: Identity,
@@ -57,7 +57,7 @@ impl<S: RegisterStore> Device<S> {
         Device::restored(identity, values, 0, changed, false)
     }
 
-    /// Makes a device in this state, with clear cold start bits.
+    /// Makes a device with these values, counter, configuration-changed bits and write protection. Its cold start bits are clear.
     pub(crate) fn restored(
         identity: Identity,
         values: &RegisterValues,
@@ -87,8 +87,8 @@ impl<S: RegisterStore> Device<S> {
         }
     }
 
-    /// Restarts the device. After that, the first reply with a response code to each master shows a cold start; later replies do
-    /// not. Nothing else changes.
+    /// Restarts the device: sets the cold start bits of both masters, and changes nothing else. So the first reply with a response code to
+    /// each master shows a cold start, and later replies do not.
     pub fn restart(&mut self)
         ensures { self.new ≡ restarted self.old }
     {
@@ -105,8 +105,8 @@ impl<S: RegisterStore> Device<S> {
         *self.cold_start.get(master)
     }
 
-    /// Gives the cold start bits the values of `cold_start`, and leaves the rest of the device unchanged. [`Device::from_image`] makes a
-    /// device with clear cold start bits.
+    /// Sets the cold start bits of both masters to the bits in `cold_start`, and leaves the rest of the device unchanged. This is for
+    /// a device from [`Device::from_image`], which has clear cold start bits.
     pub fn restore_cold_start(&mut self, cold_start: EachMaster<bool>)
         ensures { self.new ≡ record self.old { cold_start = cold_start } }
     {

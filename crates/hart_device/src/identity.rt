@@ -11,7 +11,7 @@ use std::marker::Model;
 /// The major revision of the protocol.
 const PROTOCOL_REVISION: u8 = 7;
 
-/// Who a device is (HCF_SPEC-127). Its numbers are in range, and its unique address is not the broadcast address.
+/// The identity of a device (HCF_SPEC-127). Its numbers are in range, and its unique address is not the broadcast address.
 ///
 /// In contracts, an identity is its parts.
 #[derive(Clone, Copy, Debug, PartialEq, Eq)]
@@ -37,9 +37,14 @@ impl Identity {
     ///
     /// # Errors
     ///
-    /// [`DeviceFault::OutOfRange`] if the device id is above 16,777,215, a number of preamble bytes is outside 5 to 20, the hardware
-    /// revision is above 31 or the signalling code is above 7. Otherwise [`DeviceFault::BroadcastAddress`] if the device id and the lower
-    /// 14 bits of the device type are both 0.
+    /// [`DeviceFault::OutOfRange`] if one of these numbers is out of range:
+    ///
+    /// - a device id above 16,777,215;
+    /// - a number of preamble bytes outside 5 to 20;
+    /// - a hardware revision above 31;
+    /// - a signalling code above 7.
+    ///
+    /// Otherwise [`DeviceFault::BroadcastAddress`] if the device id and the lower 14 bits of the device type are both 0.
     pub fn new(parts: IdentityParts) -> Result<Self, DeviceFault>
         ensures accepted { IsOk result ↔ AreIdentityParts parts }
         ensures kept { IfOk result (λ identity. identity ≡ parts) }

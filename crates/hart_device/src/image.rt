@@ -33,7 +33,7 @@ const ARRAY_LEN_OF_VERSION_1: usize = 50;
 /// The number of bytes at the end of an image: two for the counter and one for the flags.
 const ENDING_LEN: usize = 3;
 
-/// The contents of an image.
+/// What an image holds.
 #[derive(Clone, Copy)]
 pub(crate) struct ImageParts {
     /// The values of the registers.
@@ -76,9 +76,12 @@ impl<S: RegisterStore> Device<S> {
     ///
     /// # Errors
     ///
-    /// The first of these that applies: [`DeviceFault::BadLength`] if there are no bytes; [`DeviceFault::BadVersion`] for a version
-    /// other than 1 and 2; [`DeviceFault::BadLength`] if images of that version have another length; [`DeviceFault::BadField`] for
-    /// a polling address above 63, a loop current mode above 1, bytes that are no date, or flags above 7.
+    /// The first of these that applies:
+    ///
+    /// - [`DeviceFault::BadLength`] if there are no bytes;
+    /// - [`DeviceFault::BadVersion`] for a version other than 1 and 2;
+    /// - [`DeviceFault::BadLength`] if images of that version have another length;
+    /// - [`DeviceFault::BadField`] for a polling address above 63, a loop current mode above 1, an invalid date, or flags above 7.
     pub fn from_image(identity: Identity, image: &[u8]) -> Result<Self, DeviceFault>
         ensures accepted { IsOk result ↔ IsImage image.now }
         ensures kept { IfOk result (λ device. (device.identity ≡ identity) × IsImageOf device image.now) }
@@ -96,7 +99,7 @@ impl<S: RegisterStore> Device<S> {
     }
 }
 
-/// Reads an image of version 1 or 2. The errors are those of [`Device::from_image`].
+/// Reads an image of version 1 or 2, with the errors of [`Device::from_image`].
 fn read_image(image: &[u8]) -> Result<ImageParts, DeviceFault>
     ensures kept { IfOk result (λ parts. (identity : IdentityParts) → IsImageOf (state_with identity parts) image.now) }
     ensures refused { IfErr result (IsImageFault image.now) }

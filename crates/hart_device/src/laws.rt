@@ -1,4 +1,4 @@
-//! Laws about the definitions alone, for the crates that use this one.
+//! Laws about the definitions alone, for the crates that use this crate.
 ghost use Rattle.std.specs.Prelude.{◌≡◌, ◌≢◌, ◌⊎◌, ℕ, Bool, false, true, Ok, Option, None, Some, IfSome, IsSomeAnd};
 ghost use Rattle.std.specs.Prelude.{length, unwrap_or};
 ghost use Rattle.std.specs.Prelude.{List, [], ◌∷◌, ◌++◌, Contains, slice_get, if◌then◌else◌};
@@ -36,8 +36,9 @@ use hart_commands::laws::all_registers_are_listed_once;
 use hart_values::Bits32;
 use hart_values::laws::packed_text_and_bytes_determine_each_other;
 
-/// A command that is refused, or not answered, has no effect. A command without effect changes only the cold start bit of its
-/// master, which the reply shows and clears. Without a reply, the command changes nothing.
+/// A command that is refused, or not answered, has no effect. A command without effect changes only the cold start bit of its master, which
+/// the reply shows and clears. If there is no reply, nothing changes.
+#[tactic(auto, using(crate::proofs::lemmas::answer::Effect::refused, crate::proofs::lemmas::answer::Effect::without_effect))]
 pub fn refused_commands_change_nothing()
     ensures refused { (state : DeviceState) (frame : FrameParts) → code_of state frame ≢ 0 → effect_of state frame ≡ Nothing }
     ensures silent { (state : DeviceState) (frame : FrameParts)
@@ -59,7 +60,8 @@ pub fn answers_give_their_code()
         → answer_of state process frame ≡ None → is_answered state frame ≡ false }
 {}
 
-/// Every process is well made: the types of its parts ensure it.
+/// Every value of the type `Process` is well made, because the types of its parts ensure this.
+#[tactic(auto, using(std::proofs::lemmas::Grind::elements))]
 pub fn processes_are_well_made(process: &Process)
     ensures { IsProcess process.now }
 {
@@ -79,14 +81,14 @@ pub fn processes_are_well_made(process: &Process)
     floats_have_four_bytes(&process.output.damping);
 }
 
-/// A float is four bytes: its type says so.
+/// A float has four bytes, because its type ensures this.
 fn floats_have_four_bytes(float: &Bits32)
     ensures { IsFloat float.now }
 {
     float.0.as_slice();
 }
 
-/// The serial number of a sensor has three bytes: its type says so.
+/// The serial number of a sensor has three bytes, because its type ensures this.
 fn serial_numbers_have_three_bytes(sensor: &SensorContent)
     ensures { length sensor.now.serial_number ≡ 3 }
 {
@@ -105,8 +107,8 @@ pub fn answers_are_replies()
 {}
 
 /// A restart sets both masters' cold start bits. A reply with a response code shows the bit of its master and clears it. The bit of the
-/// other master is unchanged, and without a reply both bits are unchanged. So from a restart until the next one, only the first reply with
-/// a response code to each master shows the bit.
+/// other master is unchanged, and without a reply both bits are unchanged. So between two restarts, only the first reply with a response
+/// code to each master shows the bit.
 pub fn cold_starts_are_shown_once()
     ensures shown { (state : DeviceState) (process : Process) (frame reply : FrameParts)
         → answer_of state process frame ≡ Some reply
@@ -122,7 +124,7 @@ pub fn cold_starts_are_shown_once()
         → (state_after state frame).cold_start ≡ state.cold_start }
 {}
 
-/// A list of characters has exactly one garbled request for a device, or none.
+/// A list of characters has either exactly one garbled request for a device, or no garbled request.
 pub fn garbled_requests_are_decided()
     ensures one { (identity : IdentityParts) (chars : List Character) (request other : GarbledRequest)
         → HasGarbled identity chars request → HasGarbled identity chars other → request ≡ other }
@@ -139,6 +141,7 @@ pub fn deliveries_bring_one()
 {}
 
 /// No frame changes the identity of the device or its write protection.
+#[tactic(auto, using(crate::proofs::lemmas::answer::Effect::identity_stays, crate::proofs::lemmas::answer::Effect::protection_stays))]
 pub fn frames_leave_identity_and_protection()
     ensures identity { (state : DeviceState) (frame : FrameParts) → (state_after state frame).identity ≡ state.identity }
     ensures protected { (state : DeviceState) (frame : FrameParts) → (state_after state frame).protected ≡ state.protected }
@@ -159,8 +162,8 @@ pub fn writes_execute_their_overwrite()
         → effect_of state frame ≡ Executes overwrite → IsRequest overwrite }
 {}
 
-/// If Command 38 is answered with code 0, it resets the configuration-changed bit of its master. No other frame resets this bit. A counter
-/// that such a command names is equal to the device's counter.
+/// If Command 38 is answered with code 0, it resets the configuration-changed bit of its master. No other frame resets this bit. If the
+/// command names a counter, this counter is the device's counter.
 pub fn resets_name_this_counter()
     ensures resets { (state : DeviceState) (frame : FrameParts) (counter : Option ℕ)
         → is_answered state frame ≡ true → code_of state frame ≡ 0 → reading_of frame ≡ Ok (ResetChanged counter)
@@ -171,7 +174,7 @@ pub fn resets_name_this_counter()
         × (counter : Option ℕ) × (reading_of frame ≡ Ok (ResetChanged counter)) × IfSome counter (λ n. n ≡ state.counter) }
 {}
 
-/// If the same overwrite is applied before and after another one, its first application makes no difference.
+/// If an overwrite is applied both before and after another overwrite, its first application makes no difference.
 pub fn overwrites_absorb()
     ensures { (first other : Overwrite) (old : Contents)
         → overwritten first (overwritten other (overwritten first old)) ≡ overwritten first (overwritten other old) }
@@ -179,6 +182,7 @@ pub fn overwrites_absorb()
 
 /// If a list of overwrites is applied in order, each register holds the bytes of the last overwrite that names it. A register that no
 /// overwrite names holds its initial bytes. An overwrite can be left out of the list if the same overwrite comes again later.
+#[tactic(auto, using(crate::proofs::lemmas::Laws::registers_of_lists))]
 pub fn registers_of_lists()
     ensures each { (overwrites : List Overwrite) (initial : Contents) (register : Register)
         → bytes_in (registers_of overwrites initial) register
@@ -199,6 +203,7 @@ pub fn images_have_no_fault()
 {}
 
 /// Bytes have at most one image fault.
+#[tactic(auto, using(crate::proofs::lemmas::image::Image::one_fault))]
 pub fn bytes_have_one_image_fault()
     ensures { (image : List ℕ) (fault other : DeviceFault)
         → IsImageFault image fault → IsImageFault image other → fault ≡ other }
@@ -213,14 +218,14 @@ pub fn images_have_one_state()
         → IsImageOf state image → IsImageOf other image → state.identity ≡ other.identity → state.cold_start ≡ other.cold_start
         → state ≡ other }
 {
-    // These calls do nothing, but their contracts are needed: `registers` lists every register, and bytes are the packed form of at most
-    // one text.
+    // These calls do nothing: only their contracts are needed. The first contract says that `registers` lists every register. The second
+    // says that bytes are the packed form of at most one text.
     all_registers_are_listed_once();
     packed_text_and_bytes_determine_each_other();
 }
 
 /// A device that is made again from its identity, an image and its cold start bits has the same state. This is true for the image that the
-/// device writes and for any other image of it, in either version. The images of a device do not depend on its cold start bits.
+/// device writes, and for any other image of the device, in either version. The images of a device do not depend on its cold start bits.
 pub fn devices_are_kept_whole()
     ensures image { (state : DeviceState) → IsDevice state → IsImageOf state (image_of state) }
     ensures any_cold_start { (state : DeviceState) (image : List ℕ) (cold_start : EachMaster Bool)
@@ -233,7 +238,7 @@ pub fn devices_are_kept_whole()
         → record other { cold_start = state.cold_start } ≡ state }
 {}
 
-/// A whole request to the device's own unique address has the form of a garbled request with the same master and command, and
+/// An undamaged request to the device's own unique address also has the form of a garbled request, with the same master and command and
 /// without a fault.
 pub fn whole_requests_have_the_form_of_garbled_ones()
     ensures { (identity : IdentityParts) (master : MasterId) (command : ℕ) (payload body : List ℕ)

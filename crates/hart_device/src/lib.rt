@@ -17,11 +17,11 @@
 //! assert_eq!(rt; reply.payload(), [0, 0, 0, 1].as_slice());
 //! ```
 //!
-//! The program `hart` uses the device of [`bench`]. Use [`Identity::new`] and [`RegisterStore`] for devices of your own. No call of
-//! this crate allocates. Use the [`laws`] to prove more about a device. If you store a device as bytes, use the law
-//! `devices_are_kept_whole`.
+//! The program `hart` uses the device of [`bench`]. Use [`Identity::new`] and [`RegisterStore`] for devices of your own. No call of this
+//! crate allocates. Use the [`laws`] to prove more about a device. A device that is made again from its image, its identity and its cold
+//! start bits has the same state: see the law `devices_are_kept_whole`.
 //!
-//! The root exports the device and the types of the values that it is made from. The modules:
+//! The crate root exports the device and the types of the values that it is made from. These are the modules:
 //!
 //! - `registers`: the trait of a register store, and two stores. One store has a field for each register. The other store has a single
 //!   array for all registers.

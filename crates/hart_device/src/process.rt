@@ -1,5 +1,5 @@
-//! What a device measures, and what it knows of its parts, such as its sensor. The caller passes all this with each request, so a
-//! device holds none of it.
+//! What a device measures, and what it knows of its parts, such as its sensor. The caller passes these values with each request, so a
+//! device stores none of them.
 ghost use Rattle.std.specs.Prelude.{◌≡◌};
 ghost use Rattle.hart_device.specs.Process.{extended_device_status, has_more_status, is_any_set};
 
@@ -25,7 +25,7 @@ pub struct ProcessVariable {
 /// The values of the loop current output (HCF_SPEC-127, Command 15).
 #[derive(Clone, Copy, Debug, PartialEq, Eq)]
 pub struct OutputValues {
-    /// What the loop current does at an alarm.
+    /// The code for what the loop current does at an alarm.
     pub alarm_code: u8,
     /// The code of the transfer function.
     pub transfer_function: u8,
@@ -41,7 +41,7 @@ pub struct OutputValues {
     pub channel_flags: u8,
 }
 
-/// The process of a device (HCF_SPEC-127).
+/// The values that a device measures, and what it knows of its parts (HCF_SPEC-127).
 #[derive(Debug, Drop, PartialEq, Eq)]
 pub struct Process {
     /// The loop current, in milliampere.

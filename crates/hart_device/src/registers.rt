@@ -12,7 +12,7 @@ pub mod image_registers;
 pub mod ranges;
 pub mod values;
 
-/// A store of the registers of a device, in any layout. There are two stores, so proofs about devices have to hold for any store.
+/// A store of the registers of a device, in any layout. There are two stores, so proofs about devices have to hold for every store.
 ///
 /// In contracts, a store is its contents: the bytes of each register.
 pub trait RegisterStore {

@@ -1,4 +1,4 @@
-//! What was heard, as characters: where frames stand in them, why none stands at a place, and which damage is always detected.
+//! What was heard, as characters: where frames stand in them, why no frame stands at a place, and which damage is always detected.
 
 pub mod character;
 pub mod damage;

@@ -54,7 +54,7 @@ pub fn bodies_are_unambiguous()
         → IsBody f body → BeginsWithBody (body ++ rest) f (length body) }
 {}
 
-/// Bytes have a header exactly if they begin with a delimiter of this profile and reach the command. Bytes that begin with a body have the
+/// Bytes have a header exactly if they begin with an STX or ACK delimiter and reach the command. Bytes that begin with a body have the
 /// header of that body's frame. Bytes that have a header keep it, whatever follows them. So if the bytes become a body, its frame has this
 /// header.
 pub fn headers_are_those_of_frames()
@@ -79,14 +79,13 @@ pub fn bytes_have_one_fault()
         → BeginsWithBody bytes frame len → IsRefusedWith bytes fault → ⊥ }
 {}
 
-/// Bytes are refused as truncated in exactly one case: they do not begin with a body, but bytes can be appended so that the whole begins
-/// with a body.
+/// Bytes are refused as truncated exactly if they do not begin with a body, but some bytes can be appended so that they do.
 pub fn truncated_bytes_can_become_a_body()
     ensures { (bytes : List ℕ) → All (λ byte. byte < 256) bytes
         → IsTruncated bytes ↔ (CanBecomeBody bytes × HasNoBody bytes) }
 {}
 
-/// A frame can begin at an open place: if certain characters follow the list, a frame stands there.
+/// If a place of a list is open, certain characters appended to the list make a frame stand at that place.
 pub fn open_places_can_begin_a_frame()
     ensures { (place : ℕ) (chars : List Character) → All (λ character. character.byte < 256) chars → IsOpen place chars
         → (more : List Character) × (found : Found) × StandsIn found (chars ++ more) 0 × (found.start ≡ place) }
@@ -107,6 +106,7 @@ pub fn every_list_has_frames()
 
 /// If a message with at least two preamble bytes is heard without faults, exactly one frame is heard: the frame of the message. An empty
 /// list of characters has no frame.
+#[tactic(auto, using(crate::proofs::lemmas::heard::Damage::messages_alone))]
 pub fn messages_have_their_frame_alone()
     ensures message { (frame : FrameParts) (preambles : ℕ) (bytes : List ℕ) → 2 ≤ preambles → IsMessage frame preambles bytes
         → AreFrames (faultless bytes) 0 (record { start = preambles; stop = length bytes; frame = frame } ∷ []) }

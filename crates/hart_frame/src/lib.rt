@@ -2,7 +2,7 @@
 //!
 //! A [`Frame`] is what one message says. [`encode`] writes it as a message. [`decode`] reads the frame at the front of some bytes, or says
 //! what is wrong with them. [`first_frame`] finds frames in what was heard: a list of characters ([`Char`]), each a byte with the faults
-//! that the receiver noticed at it. [`why_none`] says why no frame stands at a place. A [`Scanner`] finds frames while they are heard, and
+//! that the receiver noticed. [`why_none`] says why no frame stands at a place. A [`Scanner`] finds frames while they are heard, and
 //! [`next_in_bytes`] finds them in bytes in memory, without a copy. [`next_sighting`] finds messages, and places where a message seems to
 //! start but no frame stands, as soon as they are decided.
 //!
@@ -14,7 +14,7 @@
 //! No call of this crate allocates memory. Its modules, each of which uses only the modules before it:
 //!
 //! - `wire`: a frame, and the bytes of its body and its message on the wire.
-//! - `heard`: what was heard, as characters: where frames stand in them, why none stands at a place, and which damage is always
+//! - `heard`: what was heard, as characters: where frames stand in them, why no frame stands at a place, and which damage is always
 //!   detected.
 //! - `scan`: how frames are found: by the scanner while they are heard, and in bytes in memory without a copy.
 //!

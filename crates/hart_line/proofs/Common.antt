@@ -6,6 +6,8 @@ pub use Rattle.hart_device.specs.answer.Answer.{after_refusal, answer_of, code_o
 pub use Rattle.hart_device.specs.answer.Delivery.{Brings, BringsBy, answer_to, state_after_delivery}
 pub use Rattle.hart_device.specs.declared.identity_parts.IdentityParts.{IdentityParts}
 pub use Rattle.hart_frame.proofs.lemmas.Laws.{messages_have_their_frame_alone-message, messages_have_their_frame_alone-nothing}
+pub use Rattle.hart_text.specs.Item.{AreDigits, BeginsAsItem, BeginsWithItem, EndsBefore, Faulty, IsValidItem, Item, NoItemBegins, Plain}
+pub use Rattle.hart_text.specs.Item.{byte_of, item_meaning, item_spelling}
 pub use Rattle.hart_line.specs.Types.{Address, Answered, BadLine, Brought, Character, Chars, Clean, DeviceState, EachMaster, Effect}
 pub use Rattle.hart_line.specs.Types.{Executes, FrameParts, Garbled, Heard, Leg, LineEvent, LineFault, Lost, MasterFault, MasterId, Memory}
 pub use Rattle.hart_line.specs.Types.{NoMessage, Noise, Nothing, OneFrame, Outcome, Overwrite, Primary, Process, Protect, Refused, Reply}
@@ -15,8 +17,7 @@ pub use Rattle.hart_line.specs.declared.script.rows.RowFault.{RowFault}
 pub use Rattle.hart_line.specs.line.Leg.{AnswersTo, IsSent, IsSpeakable}
 pub use Rattle.hart_line.specs.line.Line.{LineState, Stands, Stepped}
 pub use Rattle.hart_line.specs.line.Masters.{AreHeld, Concludes, Submits, hand_of}
-pub use Rattle.hart_line.specs.script.Items.{AreDigits, AreItems, BeginsAsItem, BeginsWithItem, EndsBefore, Faulty, IsItemsWord}
-pub use Rattle.hart_line.specs.script.Items.{IsValidItem, Item, NoItemBegins, Plain, byte_of, item_meaning, item_spelling}
+pub use Rattle.hart_line.specs.script.Items.{AreItems, IsItemsWord}
 pub use Rattle.hart_line.specs.script.Rows.{AreEvents, HasFirstBadLine, IsBadLine, IsLegWord, IsScript, IsScriptFault}
 pub use Rattle.hart_line.specs.script.Rows.{AddsLine, IsLineFault, IsNeededByItems, IsNeededByLeg, IsNeededByWords, ReadsWords, Says}
 pub use Rattle.hart_line.specs.script.Rows.{is_skipped, lines_in_words, request_of}

@@ -4,13 +4,14 @@ use Rattle.hart_line.specs.Types.{Leg, LineFault, Undetected, Memory, BadLine}
 use Rattle.hart_line.specs.declared.fault.Leg.TheVariants.{Up, Down, Noise}
 use Rattle.hart_line.specs.declared.fault_text.FaultText.{FaultText}
 
--- The word for each leg of an event: `up` from a master to the device, `down` from the device to the masters, and `noise` for noise.
+-- The word for each leg of an event. It is `up` for the leg from a master to the device, `down` for the leg from the device to the masters,
+-- and `noise` for noise.
 abbrev pub leg_word : Leg → List ℕ
 leg_word Up = codes "up"
 leg_word Down = codes "down"
 leg_word Noise = codes "noise"
 
--- The text of a fault. It may have a number in decimal: of an event, counted from 0, or of a line, counted from 1.
+-- The text of a fault. It may contain a decimal number: the number of an event, counted from 0, or of a line, counted from 1.
 abbrev pub line_fault_text : LineFault → List ℕ
 line_fault_text (Undetected event leg) =
     codes "undetected damage at event " ++ decimal event ++ codes ", " ++ leg_word leg

@@ -4,7 +4,7 @@ use denote.Memory.{lone}
 use denote.RattleType.{RattleType}
 use prog.Memory.{size}
 
--- A list that is being filled has its items so far, and room for `room` items in all.
+-- A list that is being filled: its items so far, and room for `room` items in all.
 pub record Filled (T : Type 0) : Type 0 where
   pub items : List T
   pub room : ℕ

@@ -1,4 +1,4 @@
--- The line: a device and two masters, as the code has them.
+-- The HART line: a device and two masters, as the code represents them.
 pub mod Masters
 pub mod Leg
 pub mod Line

@@ -1,6 +1,5 @@
--- Scripts: texts whose lines say events.
+-- Scripts: texts in which each line stands for an event.
 pub mod Items
-pub mod Digits
 pub mod Words
 pub mod Lines
 pub mod Rows

@@ -9,7 +9,7 @@ pub enum Heard {
     Clean,
     /// Nothing is heard.
     Lost,
-    /// These characters in place of what was sent.
+    /// These characters are heard in place of what was sent.
     Chars(CharList),
 }
 
@@ -30,9 +30,9 @@ pub enum LineEvent {
     },
     /// The write protection of the device is switched on or off.
     Protect(bool),
-    /// The device and both masters hear these characters, which can look to the device like a damaged request. Both masters also hear the
-    /// device's answer, without damage, because a script has no word for it.
+    /// The device and both masters hear these characters, which the device may take for a damaged request. Both masters also hear the
+    /// device's answer, without damage: a script has no word for damage to this answer.
     Noise(CharList),
-    /// The device lost power and is on again. The masters keep what they have in hand.
+    /// The device loses its power and starts again. The masters keep what they have in hand.
     Restart,
 }

@@ -46,7 +46,7 @@ pub enum LineFault {
     Undetected { event: usize, leg: Leg },
     /// Memory was refused.
     Memory(NoRoom),
-    /// The line with this number says no event, although it is neither empty nor a comment. Lines are counted from 1.
+    /// The line with this number stands for no event, although it is neither empty nor a comment. Lines are counted from 1.
     BadLine { number: usize },
 }
 

@@ -13,7 +13,7 @@ pub struct FaultText {
     pub comma: &'static str,
     /// The last word.
     pub word: &'static str,
-    /// The parts besides the number have at most 34 bytes. A number has at most 20 digits, so a whole text has at most 54 bytes.
+    /// The three texts have at most 34 bytes in all. A number has at most 20 digits, so a whole text has at most 54 bytes.
     pub ghost short: { length before.now + length comma.now + length word.now ≤ 34 },
 }
 
@@ -33,7 +33,7 @@ impl FaultText {
         }
     }
 
-    /// Returns a text that ends in a number.
+    /// Returns a text that ends with a number.
     pub fn numbered(before: &'static str, number: usize) -> FaultText
         requires { length before.now ≤ 34 }
         ensures { joined result ≡ before.now ++ decimal number }

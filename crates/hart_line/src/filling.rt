@@ -5,7 +5,7 @@ use crate::memory::{NoRoom, make_room, reserved};
 use std::alloc::Global;
 use std::marker::Model;
 
-/// A list that reserves room for its items beforehand, so that adding an item never fails.
+/// A list that reserves memory for its items beforehand, so that appending an item never fails.
 #[derive(Debug, Drop)]
 pub struct Filling<T> {
     items: Vec<T>,
@@ -85,7 +85,7 @@ impl<T> Filling<T> {
     ///
     /// # Errors
     ///
-    /// [`NoRoom`] with the number `more`, if the allocator refused the memory. Nothing has changed then.
+    /// [`NoRoom`] with the number `more`, if the allocator refused the memory. The list is then unchanged.
     pub fn make_room(&mut self, more: usize) -> Result<(), NoRoom>
         requires small { AreSmall T.row }
         ensures items { self.new.items ≡ self.old.items }
@@ -119,6 +119,7 @@ impl<T> Filling<T> {
 
 impl<T: Copy> Filling<T> {
     /// Adds items. There must be room for all of them.
+    #[inline(always)]
     pub fn extend(&mut self, more: &[T])
         requires { length self.old.items + length more.now ≤ self.old.room }
         ensures { self.new ≡ record self.old { items = self.old.items ++ more.now } }

@@ -1,4 +1,4 @@
-//! Laws about the definitions alone, for the crates that build on this one.
+//! Laws about the definitions alone, for the crates that build on this crate.
 ghost use Rattle.std.specs.Prelude.{◌≡◌, ◌⊎◌, ◌<◌, ◌≤◌, ◌^◌, [], List, ℕ, Some};
 ghost use Rattle.std.specs.List.{AllPass};
 ghost use Rattle.hart_line.specs.Types.{Address, MasterId, Character, Reply, LineEvent, Leg, LineFault, Memory, Undetected};
@@ -45,8 +45,8 @@ pub fn texts_have_one_script()
         → IsScript text events → HasFirstBadLine text number → ⊥ }
 {}
 
-/// A script has at most one last world. If all damage is detected, it has one. If an event has undetected damage, it has none. All faults
-/// for undetected damage in a script name the same event and the same leg.
+/// A script has at most one last world: exactly one if all damage is detected, and none if an event has undetected damage. All faults for
+/// undetected damage in a script name the same event and the same leg.
 pub fn scripts_have_one_last_world()
     ensures one_world { (start : Start) (events : List LineEvent) (a b : World)
         → IsLast start events a → IsLast start events b → a ≡ b }
@@ -59,7 +59,7 @@ pub fn scripts_have_one_last_world()
         → (number ≡ other) × (leg ≡ another) }
 {}
 
-/// A script without events never lacks memory, and neither does a text whose lines are all skipped.
+/// `Memory` is never the fault of a script without events, nor of a text whose lines are all skipped.
 pub fn empty_scripts_need_no_room<L: Log>()
     ensures events { (start : Start) (none : NoRoom) → IsFault start [] (Memory none) → ⊥ }
     ensures noted { (old new : L) (start : Start) (none : NoRoom)
@@ -68,7 +68,7 @@ pub fn empty_scripts_need_no_room<L: Log>()
         → IsScriptFault text (Memory none) → ⊥ }
 {}
 
-/// A master can take a unique address from the identity in a reply with code 0. It is the unique address of the device that replied.
+/// From the identity in a reply with code 0, a master reads a unique address: the unique address of the device that replied.
 #[tactic(auto, using(std::proofs::lemmas::Grind::common_steps, std::proofs::lemmas::Bool::Decides::nat_tests))]
 pub fn identities_give_their_address()
     ensures { (parts : IdentityParts) (counter extended_device_status : ℕ) (reply : Reply) → AreIdentityParts parts
@@ -76,7 +76,7 @@ pub fn identities_give_their_address()
         → unique_in reply ≡ Some (Unique (own_numbers parts)) }
 {}
 
-/// If the device refuses a command in a turn of a script, only the cold start bit of the turn's master changes; the reply shows and clears
+/// If the device refuses a command in a turn of a script, only the cold start bit of the turn's master changes. The reply shows and clears
 /// this bit. If the device does not answer, nothing in the device changes.
 pub fn refused_turns_change_nothing()
     ensures { (start : Start) (events : List LineEvent) (before next : World)
@@ -84,9 +84,9 @@ pub fn refused_turns_change_nothing()
         → state_of start.device next ≡ after_refusal (state_of start.device before) refused.frame }
 {}
 
-/// In the first world of a script, the device is as it was given. The device and the outcomes of the last world keep the promises
-/// (`KeepsPromises`), if the device, the process values and the requests are well made. Every value of their types is well made. A script
-/// never fails because of detectable damage.
+/// In the first world of a script, the device is as it was given. If the device, the process values and the requests are well made, the
+/// device and the outcomes of the last world keep the promises (`KeepsPromises`). Every value of their types is well made. A script never
+/// fails because of detectable damage.
 pub fn scripts_keep_their_promises()
     ensures first_world { (start : Start) → start.device.counter < 2 ^ 16 → state_of start.device (first_world start) ≡ start.device }
     ensures kept { (start : Start) (events : List LineEvent) (world : World)

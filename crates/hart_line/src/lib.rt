@@ -1,9 +1,9 @@
 //! The HART line between a field device and its two masters: the events of a script, how they are written, and what they lead to.
 //!
-//! Each line of a script, unless empty or a comment, is one event: a request for a master, a turn with what is heard in its two legs, a
-//! switch of the write protection, noise, or a restart. [`read_script`] reads the events, or names the first bad line. [`run`] carries the
-//! events out. It returns what was spoken, the outcome of each submission, and the device. If a leg has undetected damage, [`run`] returns
-//! a fault instead, which names the first such leg. If memory is refused, [`run`] returns a fault, too.
+//! Each line of a script is one event, unless it is empty or a comment. An event is a request for a master, a turn with what is heard in
+//! its two legs, a switch of the write protection, noise, or a restart. [`read_script`] reads the events, or names the first bad line.
+//! [`run`] carries the events out. It returns what was spoken, the outcome of each submission, and the device. If a leg has undetected
+//! damage, [`run`] returns a fault instead, which names the first such leg. If memory is refused, [`run`] returns a fault, too.
 //!
 //! ```rust
 //! let events = read_script(rt.alloc(), b"submit P @0 0\nturn P ok lost\n")?;
@@ -24,7 +24,7 @@
 //!
 //! The modules:
 //!
-//! - `script`: texts whose lines say events.
+//! - `script`: texts whose lines stand for events.
 //! - `line`: a device and two masters on one line.
 //! - `world`: definitions and lemmas, but no code. A world describes everything that has happened on the line. The reader of a script knows
 //!   the whole world. The device and the masters know only parts of it.
@@ -50,7 +50,5 @@ pub use line::report::{Ending, Outcome, Outcomes, Party, Report, Spoken, SpokenL
 pub use line::run::run;
 pub use memory::{NoRoom, reserved};
 pub use plain_list::{CharList, PlainList};
-pub use script::digits::Digits;
-pub use script::items::{LeadingItem, leading_item};
 pub use script::read_script;
 pub use script::words::{read_address, read_command, read_data, read_who};

@@ -12,7 +12,7 @@ ghost use Rattle.hart_line.specs.world.Spoken.{frame_if, party_of};
 use crate::line::event_frames::EventFrames;
 use crate::line::leg::{answer_among, answer_in, arrived_in};
 use crate::line::log::Log;
-use crate::line::masters::{Masters, Submitter};
+use crate::line::masters::{Masters, Submitter, first_outcome};
 use crate::line::report::Ending;
 use crate::{Filling, Heard, Leg, LineEvent, NoRoom, Outcome, Outcomes, Party};
 use hart_commands::Request;
@@ -43,8 +43,8 @@ pub struct Line<S: RegisterStore> {
     spoken: EventFrames,
     /// The number of preamble bytes of the device's replies.
     response_preambles: u8,
-    /// The request and the reply of an event are written into these two fields, because each frame takes about 300 bytes. Calls that return
-    /// frames instead cost a fourth more instructions in clean turns, and twice as many in empty turns.
+    /// The request and the reply of an event are written into these two fields, because each frame takes about 300 bytes. With calls that
+    /// return frames, a turn whose two legs are clean takes a quarter more instructions, and a turn without a request takes twice as many.
     request: Frame,
     reply: Frame,
 }
@@ -109,8 +109,8 @@ impl<S: RegisterStore> Line<S> {
         }
     }
 
-    /// Notes in a log the spoken frames that the line keeps. Stops at the first frame for which the log has no room. Afterwards the line
-    /// keeps no frames, even if the log had no room.
+    /// Notes the line's spoken frames in a log, and stops at the first frame for which the log has no room. Afterwards the line keeps no
+    /// frames, whether or not all of them were noted.
     pub fn tell<L: Log>(&mut self, log: &mut L) -> Result<(), NoRoom>
         ensures line { OnOk result (self.new ≡ record self.old { spoken = [] }) }
         ensures noted { OnOk result (L.notes log.old self.old.spoken log.new) }
@@ -120,7 +120,7 @@ impl<S: RegisterStore> Line<S> {
         Ok(())
     }
 
-    /// Returns what the script has led to, without what was spoken.
+    /// Returns the device and the outcomes to which the script has led.
     pub fn into_ending(self) -> Ending<S>
         ensures device { result.device ≡ self.device }
         ensures outcomes { result.outcomes ≡ self.outcomes }
@@ -153,7 +153,7 @@ impl<S: RegisterStore> Line<S> {
         Ok(())
     }
 
-    /// Submits a request to a master and adds its outcome so far.
+    /// Submits a request to a master and adds its first outcome.
     fn submit(&mut self, who: MasterId, address: Address, request: &Request)
         requires room { HasRoomFor (Submit who address request.now ∷ []) self.old }
         ensures stepped { (process : Process) → StepsOn process (Submit who address request.now) self.old self.new }
@@ -161,7 +161,8 @@ impl<S: RegisterStore> Line<S> {
         ensures room { LeavesRoom (Submit who address request.now) self.old self.new }
     {
         let place = self.outcomes.len();
-        let outcome = self.masters.submit(who, place, address, request);
+        let fault = self.masters.submit(who, place, address, request);
+        let outcome = first_outcome(fault);
         self.outcomes.push(outcome);
     }
 
@@ -215,7 +216,7 @@ impl<S: RegisterStore> Line<S> {
     }
 }
 
-/// Returns the party that a master is.
+/// Returns this master as a party of the line.
 fn party_of(id: MasterId) -> Party
     ensures { result ≡ party_of id }
 {
@@ -225,14 +226,14 @@ fn party_of(id: MasterId) -> Party
     }
 }
 
-/// Returns the frame if `is_there`, and otherwise `None`.
+/// Returns the frame if `is_there` is true, and otherwise `None`.
 fn frame_if(is_there: bool, frame: &Frame) -> Option<&Frame>
     ensures { option_copied result ≡ frame_if is_there frame.now }
 {
     if is_there { Some(frame) } else { None }
 }
 
-/// Returns a filler for a field in which no frame was written yet.
+/// Returns a placeholder for a frame that is not written yet.
 fn no_frame() -> Frame {
     let address = Address::polling(0).unwrap();
     Frame::request(MasterId::Primary, address, 0, Payload::new())

@@ -37,7 +37,7 @@ pub fn reserved<T>(alloc: Global, room: usize) -> Result<Vec<T>, NoRoom>
 }
 
 /// Makes room for `more` further items of a list, of at most 512 bytes each. Room for 0 items is never refused. If room is missing,
-/// more is reserved than is needed, so that a growing list seldom moves.
+/// reserves more than is needed, so that a growing list seldom moves.
 ///
 /// # Errors
 ///

@@ -1,25 +1,26 @@
-//! Scripts: texts whose lines say events.
+//! Scripts: texts in which each line stands for an event.
 ghost use Rattle.std.specs.Prelude.{IfOk, IfErr};
 ghost use Rattle.hart_line.specs.script.Rows.{IsScript, IsScriptFault};
 
-use crate::script::digits::Digits;
 use crate::script::rows::read_line;
 use crate::{Filling, LineEvent, LineFault};
-use hart_text::first_line;
+use hart_text::{Digits, first_line};
 use std::alloc::Global;
 
-pub mod digits;
 pub mod items;
 pub mod rows;
 pub mod words;
 
-/// Returns the events that the lines of a text say, in order. Empty lines and lines whose first word begins with `#` say none.
+/// Returns the events that the lines of a text stand for, in order. Empty lines and comments, whose first word begins with `#`, stand for
+/// no event.
 ///
 /// # Errors
 ///
-/// [`LineFault::BadLine`] with the number of the first bad line, counted from 1. A bad line says no event, and is neither empty nor a
-/// comment. [`LineFault::Memory`] if room was refused: for the event of a line, or for the characters of a noise or of a leg other than
-/// `ok` and `lost`, one for every two bytes of the word.
+/// [`LineFault::BadLine`] with the number of the first bad line, counted from 1. A line is bad if it stands for no event and is neither
+/// empty nor a comment.
+///
+/// [`LineFault::Memory`] if memory was refused for the event of a line, or for the characters in a word of items. A word of items follows
+/// `noise`, or says what is heard in a leg. It needs one character for every two bytes of the word.
 pub fn read_script(alloc: Global, text: &[u8]) -> Result<Vec<LineEvent>, LineFault>
     ensures events { IfOk result (λ events. IsScript text.now events.items) }
     ensures fault { IfErr result (IsScriptFault text.now) }

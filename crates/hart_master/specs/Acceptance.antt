@@ -13,8 +13,8 @@ use Rattle.hart_commands.specs.ReplyData.{reply_reading}
 use Rattle.hart_commands.specs.declared.request.Request.{Request}
 use Rattle.hart_commands.specs.declared.reply.Reply.{Reply}
 
--- A request has a master, an address and a command number. A frame answers the request if it is an ACK without expansion bytes, and has
--- the same master bit, address and command number. The burst bit is ignored.
+-- A frame answers a request if it is an ACK without expansion bytes, and has the master, the address and the command number of the request.
+-- The burst bit is ignored.
 pub record Matches (id : MasterId) (address : Address) (number : ℕ) (frame : FrameParts) : Type 0 where
   pub kind : frame.kind ≡ Ack
   pub expansion : frame.expansion ≡ []
@@ -22,11 +22,11 @@ pub record Matches (id : MasterId) (address : Address) (number : ℕ) (frame : F
   pub sender : frame.address ≡ address
   pub command : frame.command ≡ number
 
--- The same for a listed request: the command number is the request's.
+-- Like `Matches`, with the command number of this request.
 abbrev pub MatchesRequest : MasterId → Address → Request → FrameParts → Type 0
 MatchesRequest id address request = Matches id address (command_of request)
 
--- The same for a request frame of any command: master, address and command number are those of the request frame.
+-- Like `Matches`, with the master, the address and the command number of a request frame of any command.
 abbrev pub MatchesFrame : FrameParts → FrameParts → Type 0
 MatchesFrame request = Matches request.master request.address request.command
 
@@ -42,8 +42,8 @@ pub record IsAccepted (id : MasterId) (address : Address) (request : Request) (d
   pub alone : AreFrames delivery 0 (found ∷ [])
   pub is_reply : IsReplyTo id address request found.frame reply
 
--- A frame is the reply to a request frame if it answers the request and has no communication faults. The payload of a known command must
--- also be read as a reply.
+-- A frame is the reply to a request frame if it answers the request and has no communication faults. If the command is known,
+-- `reply_reading` must also accept the payload.
 pub record IsReplyFrame (request frame : FrameParts) : Type 0 where
   pub answers : MatchesFrame request frame
   pub heard : slice_index frame.payload 0 < 128

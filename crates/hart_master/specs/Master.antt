@@ -16,8 +16,8 @@ use Rattle.hart_master.specs.declared.hand.Hand.TheVariants.{Empty, ToSend, Awai
 use Rattle.hart_master.specs.Acceptance.{IsAccepted, IsReplyTo}
 use Rattle.hart_master.specs.Pairing.{may_ask}
 
--- A master is the primary or the secondary one, sends a request again at most `retries` times, awaits each reply for `reply_limit`
--- character times, and has one request in hand or none.
+-- A master is the primary or the secondary master, and has one request in hand or none. It sends a request again at most `retries` times,
+-- and waits for each reply for `reply_limit` character times.
 pub record MasterState : Type 0 where
   pub id : MasterId
   pub retries : ℕ
@@ -37,31 +37,31 @@ IsWithin retries Empty = Unit {0}
 IsWithin retries (ToSend transaction) = transaction.sendings ≤ retries
 IsWithin retries (Awaiting transaction time) = (0 < transaction.sendings) × (transaction.sendings ≤ retries + 1)
 
--- A submission is rejected with `Pending` if a request is in hand. Otherwise it is rejected with `WrongAddress` if the new request
--- may not be sent to the address.
+-- The result of submitting a request. If a request is in hand, the new request is rejected with `Pending`. Otherwise, if the new request
+-- may not be sent to the address, it is rejected with `WrongAddress`.
 abbrev pub result_submitted : Hand → Address → Request → Result (Unit {0}) Rejected
 result_submitted Empty address request =
     if may_ask address request then Ok tt else Err (record { fault = WrongAddress; request = request })
 result_submitted (ToSend transaction) address request = Err (record { fault = Pending; request = request })
 result_submitted (Awaiting transaction time) address request = Err (record { fault = Pending; request = request })
 
--- A request that is not rejected is then in hand and not sent yet; a rejected request changes nothing.
+-- What is in hand after a submission. A request that is not rejected is in hand and not sent yet. A rejected request changes nothing.
 abbrev pub hand_submitted : Hand → Address → Request → Hand
 hand_submitted Empty address request =
     if may_ask address request then ToSend (record { address = address; request = request; sendings = 0 }) else Empty
 hand_submitted (ToSend transaction) address request = ToSend transaction
 hand_submitted (Awaiting transaction time) address request = Awaiting transaction time
 
--- The frame that a master sends: the frame of the request that is due to be sent, with the data of this request. If no request is due,
--- there is no frame.
+-- The frame that a master sends: the frame of the request that is due, with the data of this request. If no request is due, there is no
+-- frame.
 abbrev pub frame_sent : MasterId → Hand → Option FrameParts
 frame_sent id Empty = None
 frame_sent id (ToSend transaction) =
     Some (request_parts id transaction.address (command_of transaction.request) (request_data transaction.request))
 frame_sent id (Awaiting transaction time) = None
 
--- When the request that is due is sent, its number of sendings grows by one, and its reply is awaited from then on. If no request is due,
--- the hand is unchanged.
+-- What is in hand after the request that is due was sent: its number of sendings is one more, and its reply is awaited. If no request is
+-- due, nothing changes.
 abbrev pub hand_sent : Hand → Hand
 hand_sent Empty = Empty
 hand_sent (ToSend transaction) = Awaiting (record transaction { sendings = transaction.sendings + 1 }) 0
@@ -79,27 +79,27 @@ FrameBrings id Empty frame reply = ⊥
 FrameBrings id (ToSend transaction) frame reply = ⊥
 FrameBrings id (Awaiting transaction time) frame reply = IsReplyTo id transaction.address transaction.request frame reply
 
--- What the master returns after hearing: `Answered`, with the reply that was brought and the number of sendings, or `Nothing` if no
--- reply was brought.
+-- The event that the master returns for what it heard. If this brought a reply, the event is `Answered`, with the reply and the number of
+-- sendings. Otherwise the event is `Nothing`.
 abbrev pub IsHeard : Hand → (Reply → Type 0) → MasterEvent → Type 0
 IsHeard hand Brought (Answered reply sendings) = Brought reply × (sendings ≡ sendings_of hand)
 IsHeard hand Brought Nothing = (reply : Reply) → Brought reply → ⊥
 IsHeard hand Brought Retry = ⊥
 IsHeard hand Brought (NoReply sendings) = ⊥
 
--- An answered request is no longer in hand; without an answer, nothing changes.
+-- What is in hand after this event. An answered request is no longer in hand. Without an answer, nothing changes.
 abbrev pub hand_heard : Hand → MasterEvent → Hand
 hand_heard hand (Answered reply sendings) = Empty
 hand_heard hand Nothing = hand
 hand_heard hand Retry = hand
 hand_heard hand (NoReply sendings) = hand
 
--- Character times add up, but to 255 at most.
+-- The sum of two numbers of character times, but at most 255.
 abbrev pub time_ticked : ℕ → ℕ → ℕ
 time_ticked time character_times = min (time + character_times) 255
 
--- If no reply is awaited, or the time is still below the reply limit, the event is `Nothing`. When the time reaches the limit, the event is
--- `Retry` if the request was sent at most `retries` times so far, and otherwise `NoReply`.
+-- The event after some time. If no reply is awaited, or the time is still below the reply limit, the event is `Nothing`. When the time
+-- reaches the limit, the event is `Retry` if the request was sent at most `retries` times so far, and otherwise `NoReply`.
 abbrev pub event_ticked : (retries reply_limit : ℕ) → Hand → ℕ → MasterEvent
 event_ticked retries reply_limit Empty character_times = Nothing
 event_ticked retries reply_limit (ToSend transaction) character_times = Nothing
@@ -108,8 +108,8 @@ event_ticked retries reply_limit (Awaiting transaction time) character_times =
     else if nat_le transaction.sendings retries then Retry
     else NoReply transaction.sendings
 
--- If no reply is awaited, the hand is unchanged. Otherwise the event of `event_ticked` decides. After `Nothing` the wait goes on with the
--- new time. After `Retry` the request stays in hand, to be sent again. After `NoReply` the request is dropped.
+-- What is in hand after some time. If no reply is awaited, nothing changes. Otherwise the event of `event_ticked` decides. After `Nothing`
+-- the wait goes on with the new time. After `Retry` the request stays in hand, to be sent again. After `NoReply` the request is dropped.
 abbrev pub hand_ticked : (retries reply_limit : ℕ) → Hand → ℕ → Hand
 hand_ticked retries reply_limit Empty character_times = Empty
 hand_ticked retries reply_limit (ToSend transaction) character_times = ToSend transaction

@@ -1,4 +1,4 @@
--- Which requests are sent to which addresses (implementation choice).
+-- Which requests may be sent to which addresses (implementation choice).
 use Rattle.std.specs.Prelude.{◌==◌, ◌||◌, not, ℕ, Bool, is_some}
 use Rattle.hart_values.specs.address.AddressBytes.{is_broadcast}
 use Rattle.hart_values.specs.declared.address.Address.{Address}
@@ -8,15 +8,16 @@ use Rattle.hart_commands.specs.Commands.{command_name, may_be_broadcast}
 use Rattle.hart_commands.specs.RequestData.{command_of}
 use Rattle.hart_commands.specs.declared.request.Request.{Request}
 
--- Only Command 0 is sent to a polling address, only Commands 11 and 21 by broadcast, and every command to any other unique address.
+-- Whether a command may go to an address. Only Command 0 may go to a polling address, and only Commands 11 and 21 may go to the broadcast
+-- address. Every command may go to any other unique address.
 abbrev pub may_go_to : Address → ℕ → Bool
 may_go_to (Polling polling) number = number == 0
 may_go_to (Unique numbers) number = not (is_broadcast (Unique numbers)) || may_be_broadcast number
 
--- A request may be sent where its command may go.
+-- Whether a request may be sent to an address: the command of the request may go to this address.
 abbrev pub may_ask : Address → Request → Bool
 may_ask address request = may_go_to address (command_of request)
 
--- The frame of a known command may be sent where this command may go. A frame of any other command may be sent to any address.
+-- Whether a frame may be sent: its command is unknown, or may go to its address.
 abbrev pub may_send : FrameParts → Bool
 may_send frame = not (is_some (command_name frame.command)) || may_go_to frame.address frame.command

@@ -44,8 +44,8 @@ pub fn matches_frame(request: &Frame, frame: &Frame) -> bool
     )
 }
 
-/// Returns true if a frame is the reply to a request frame: it answers the request, and has no communication faults. If the
-/// command is known, its payload is read as a reply.
+/// Returns true if a frame is the reply to a request frame: it answers the request, and has no communication faults. If the command is
+/// known, [`Reply::read`] must also accept the payload.
 pub(crate) fn is_reply_frame(request: &Frame, frame: &Frame) -> bool
     ensures { IsTrue result ↔ IsReplyFrame request.now frame.now }
 {

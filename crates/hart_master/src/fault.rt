@@ -7,7 +7,7 @@ use thiserror::Error;
 /// Why a master could not be made, or did not take a request.
 #[derive(Clone, Copy, Debug, PartialEq, Eq, Error)]
 pub enum MasterFault {
-    /// More than 15 retries, or a reply limit of 0. Also a frame that is no request of a master, and a [`FrameHand`](crate::FrameHand) that
+    /// More than 15 retries, or a reply limit of 0. Also a frame that is no request of a master, or a [`FrameHand`](crate::FrameHand) that
     /// a master with these retries cannot have.
     #[error("out of range")]
     OutOfRange,

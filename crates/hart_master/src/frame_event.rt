@@ -5,13 +5,13 @@ use thiserror::Error;
 /// What became of the request frame in hand.
 #[derive(Clone, Copy, Debug, PartialEq, Eq)]
 pub enum FrameEvent {
-    /// The frame that was received is the reply, after the request was sent this number of times.
+    /// The received frame is the reply. The request was sent this number of times.
     Answered(u8),
-    /// Nothing new.
+    /// Nothing happened.
     Nothing,
     /// The request is due to be sent again.
     Retry,
-    /// The request was given up: it was sent this number of times.
+    /// The request was given up after it was sent this number of times.
     NoReply(u8),
 }
 

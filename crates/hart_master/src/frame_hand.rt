@@ -7,7 +7,7 @@ pub enum FrameHand {
     Empty,
     /// A request that is due to be sent, for the first time or again.
     Due(FrameTransaction),
-    /// A request whose reply is awaited, and how many character times have passed since it was sent; 255 means 255 or more.
+    /// A request whose reply is awaited, and how many character times have passed since it was sent. The number 255 means 255 or more.
     Awaiting(FrameTransaction, u8),
     /// A request that was answered. The master is idle, but the caller can still repeat the request.
     Answered(FrameTransaction),

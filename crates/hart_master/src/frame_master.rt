@@ -14,12 +14,12 @@ use hart_frame::{Frame, FrameKind};
 use std::marker::Model;
 use std::mem;
 
-/// A master over frames, of any command: it has one request frame in hand or none.
+/// A master whose requests are frames, of any command, with one request frame in hand or none.
 ///
 /// It decides as a [`Master`](crate::Master) does. It reads the reply data of known commands, but only to decide whether a frame is the
-/// reply. Its caller submits a request frame, sends the frame that is due, and passes in the frames that were found, or how long none was
-/// found. A request is sent at most `retries + 1` times. A frame of an unknown command may go to any address, and any reply to it counts
-/// unless it has communication faults.
+/// reply. Its caller submits a request frame, sends the frame that is due, and passes in the frames that were found, or how long no frame
+/// was found. A request is sent at most `retries + 1` times. A frame of an unknown command may go to any address. Any reply to such a frame
+/// counts, unless the reply has communication faults.
 #[derive(Debug, Drop)]
 pub struct FrameMaster {
     retries: u8,
@@ -39,14 +39,14 @@ impl Model for FrameMaster {
 }
 
 impl FrameMaster {
-    /// Makes a master with this in hand, for instance [`FrameHand::Empty`]. It awaits each reply for `reply_limit` character times, at
-    /// least 1, and sends a request again at most `retries` times, at most 15.
+    /// Makes a master with `hand` in hand, for instance [`FrameHand::Empty`]. It awaits each reply for `reply_limit` character times, and
+    /// sends a request again at most `retries` times. The limit is at least 1, and there are at most 15 retries.
     ///
     /// # Errors
     ///
-    /// [`MasterFault::OutOfRange`] if `retries` is above 15, if `reply_limit` is 0, if the frame in hand is one that
-    /// [`submit`](Self::submit) does not take, if it was sent more often than the retries allow, or if its number of sendings is 0 although
-    /// its reply is awaited or it was answered.
+    /// [`MasterFault::OutOfRange`] if `retries` is above 15, `reply_limit` is 0, or a master with these retries cannot have `hand` in hand.
+    /// A frame in hand must be a frame that [`submit`](Self::submit) takes. The frame must not have been sent more often than the retries
+    /// allow. If its reply is awaited, or if it was answered, it must have been sent at least once.
     pub fn new(retries: u8, reply_limit: u8, hand: FrameHand) -> Result<Self, MasterFault>
         ensures accepted { IsOk result ↔ ((retries ≤ 15) × (0 < reply_limit) × IsWithin retries hand) }
         ensures kept { IfOk result (λ master. master ≡ record { retries = retries; reply_limit = reply_limit; hand = hand }) }
@@ -72,7 +72,7 @@ impl FrameMaster {
         &self.hand
     }
 
-    /// Returns true if the master takes a new request: it has none in hand, or the one in hand was answered.
+    /// Returns true if the master takes a new request: no request is in hand, or the request in hand was answered.
     pub fn is_idle(&self) -> bool
         ensures { result ≡ is_idle self.now.hand }
     {
@@ -83,9 +83,13 @@ impl FrameMaster {
     ///
     /// # Errors
     ///
-    /// The first of these that holds: [`MasterFault::OutOfRange`] if the frame is no [request](is_request) of a master,
-    /// [`MasterFault::Pending`] if the master is not idle, or [`MasterFault::WrongAddress`] for a known command that may not be sent to
-    /// this address. The error contains the frame, and the master is unchanged.
+    /// The first of these that applies:
+    ///
+    /// - [`MasterFault::OutOfRange`] if the frame is no [request](is_request) of a master;
+    /// - [`MasterFault::Pending`] if the master is not idle;
+    /// - [`MasterFault::WrongAddress`] if the command is known and may not be sent to this address.
+    ///
+    /// The error contains the frame, and the master is unchanged.
     pub fn submit(&mut self, request: Frame) -> Result<(), RejectedFrame>
         ensures result { IsRequestFrame request → result ≡ result_submitted self.old.hand request }
         ensures state { IsRequestFrame request → self.new ≡ record self.old { hand = hand_submitted self.old.hand request } }
@@ -108,7 +112,7 @@ impl FrameMaster {
         Err(RejectedFrame { fault, request })
     }
 
-    /// Returns the frame that is due to be sent, or `None` if none is due.
+    /// Returns the frame that is due to be sent, or `None` if no frame is due.
     pub fn due(&self) -> Option<&Frame>
         ensures { option_map (λ frame. frame.now) result ≡ frame_due self.now.hand }
     {
@@ -118,7 +122,7 @@ impl FrameMaster {
         }
     }
 
-    /// Notes that the frame that was due is sent. From then on the master awaits the reply. If no frame is due, the master is unchanged.
+    /// Records that the caller sent the frame that was due. From then on the master awaits the reply. If no frame is due, nothing changes.
     pub fn sent(&mut self)
         ensures state { self.new ≡ record self.old { hand = hand_sent self.old.hand } }
         // A request is sent at most `retries + 1` times.
@@ -137,7 +141,7 @@ impl FrameMaster {
         };
     }
 
-    /// Receives a frame. If it is the awaited reply, returns the number of sendings, and is idle again. Otherwise the result is
+    /// Receives a frame. If it is the awaited reply, returns the number of sendings, and the master is idle again. Otherwise returns
     /// [`FrameEvent::Nothing`], and the master is unchanged.
     pub fn receive(&mut self, frame: &Frame) -> FrameEvent
         ensures event { IsReceived self.old.hand frame.now result }
@@ -160,8 +164,8 @@ impl FrameMaster {
     /// Lets this number of character times pass. A number of 255 means 255 or more.
     ///
     /// While a reply is awaited, the character times of all calls are added up, to 255 at most. When the sum reaches the reply limit, the
-    /// request is due again, and the result is [`FrameEvent::Retry`]. If it was already sent `retries + 1` times, the master drops it,
-    /// and the result is [`FrameEvent::NoReply`]. In all other cases the result is [`FrameEvent::Nothing`].
+    /// request is due again, and the result is [`FrameEvent::Retry`]. If the request was already sent `retries + 1` times, the master drops
+    /// it instead, and the result is [`FrameEvent::NoReply`]. In all other cases the result is [`FrameEvent::Nothing`].
     pub fn tick(&mut self, character_times: u8) -> FrameEvent
         ensures event { result ≡ event_ticked self.old.retries self.old.reply_limit self.old.hand character_times }
         ensures state { self.new ≡ record self.old {
@@ -186,10 +190,10 @@ impl FrameMaster {
         }
     }
 
-    /// Ends the wait at once, as at the reply limit, or repeats a request that was answered. The request is due again, and the result is
-    /// [`FrameEvent::Retry`]. If it was already sent `retries + 1` times, the master drops it, and the result is [`FrameEvent::NoReply`].
-    /// In all other cases the result is [`FrameEvent::Nothing`]. A caller calls this after a reply with communication faults, or after one
-    /// whose response code says that the device is busy.
+    /// Ends the wait for a reply at once, or repeats a request that was answered. In both cases the request is due again, and the result is
+    /// [`FrameEvent::Retry`]. If the request was already sent `retries + 1` times, the master drops it instead, and the result is
+    /// [`FrameEvent::NoReply`]. If no reply is awaited and no request was answered, the result is [`FrameEvent::Nothing`]. Use this
+    /// function after a reply with communication faults, or with the response code for a busy device.
     pub fn again(&mut self) -> FrameEvent
         ensures event { result ≡ event_again self.old.retries self.old.hand }
         ensures state { self.new ≡ record self.old { hand = hand_again self.old.retries self.old.hand } }
@@ -222,7 +226,7 @@ impl FrameMaster {
     }
 }
 
-/// Returns true if a master with this number of retries may have this in hand.
+/// Returns true if a master with this number of retries may have `hand` in hand.
 fn is_within(retries: u8, hand: &FrameHand) -> bool
     ensures { IsTrue result ↔ IsWithin retries hand.now }
 {

@@ -8,7 +8,7 @@ pub(crate) enum Hand {
     Empty,
     /// A request that is to be sent, for the first time or again.
     ToSend(Transaction),
-    /// A request whose reply is awaited, and how many character times have passed since it was sent; 255 means 255 or more.
+    /// A request whose reply is awaited, and how many character times have passed since it was sent. The number 255 means 255 or more.
     Awaiting(Transaction, u8),
 }
 

@@ -1,4 +1,4 @@
-//! Laws about the definitions alone, for the crates that use this one.
+//! Laws about the definitions alone, for the crates that use this crate.
 ghost use Rattle.std.specs.Prelude.{◌≡◌, ◌≤◌, ◌⊎◌, ◌↔◌, ◌∷◌, [], ℕ, List, Err, slice_index};
 ghost use Rattle.hart_values.specs.declared.master_id.MasterId.{MasterId};
 ghost use Rattle.hart_values.specs.declared.address.Address.{Address};
@@ -48,8 +48,8 @@ pub fn acceptance_is_decided()
     replies_are_decided();
 }
 
-/// A frame with communication faults, that is with bit 7 of the first status byte set, is not a reply to any request. So a delivery whose
-/// only frame has communication faults is never accepted.
+/// A frame with communication faults is not a reply to any request. In such a frame, bit 7 of the first status byte is set. So a delivery
+/// whose only frame has communication faults is never accepted.
 pub fn communication_faults_are_no_reply()
     ensures frame { (id : MasterId) (address : Address) (request : Request) (frame : FrameParts) (reply : Reply)
         → 128 ≤ slice_index frame.payload 0 → IsReplyTo id address request frame reply → ⊥ }
@@ -61,12 +61,12 @@ pub fn communication_faults_are_no_reply()
     acceptance_is_decided();
 }
 
-/// A master over frames decides as a [`Master`](crate::Master) does. If both have the same in hand, they take and refuse the same requests,
-/// send the same frames, and return the same events for the same frames and the same time; then both again have the same in hand. A
-/// request that was answered counts as no longer in hand.
+/// A [`FrameMaster`](crate::FrameMaster) decides as a [`Master`](crate::Master) does. Suppose both have the same in hand. Then they take
+/// and refuse the same requests and send the same frames. If they receive the same frame, or if the same time passes, they return the same
+/// event. Afterwards both again have the same in hand. A request that was answered counts as no longer in hand.
 ///
-/// The requests are listed ones, and their frames have exactly the data that a `Master` sends. The law is about one frame at a time: it
-/// does not compare [`Master::hear`](crate::Master::hear), which may get several frames at once. Nor is it about
+/// The requests are values of the type `Request`, and their frames have exactly the data that a `Master` sends. The law is about one frame
+/// at a time: it says nothing of [`Master::hear`](crate::Master::hear), which may get several frames at once. It also says nothing of
 /// [`FrameMaster::again`](crate::FrameMaster::again), which a `Master` does not have.
 #[tactic(auto, using(crate::proofs::lemmas::Alike::has_name))]
 pub fn masters_over_frames_decide_alike()

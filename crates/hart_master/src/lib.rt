@@ -1,5 +1,5 @@
-//! A master of a HART line: it holds at most one request (the request in hand), sends this request one or more times, and accepts
-//! the reply (HCF_SPEC-081).
+//! A master of a HART line. It holds at most one request (the request in hand), sends this request one or more times, and accepts the reply
+//! (HCF_SPEC-081).
 //!
 //! A [`Master`] does no input or output. Its caller submits a request, sends the frame that [`Master::send`] returns, and then passes in
 //! the characters that were heard, or how long no characters were heard.
@@ -13,8 +13,8 @@
 //! assert_eq!(rt; master.tick(33), MasterEvent::NoReply(2));
 //! ```
 //!
-//! A [`FrameMaster`] is such a master over frames of any command, known or not. It reads the reply data of known commands, but only to
-//! decide whether a frame is the reply.
+//! A [`FrameMaster`] is a master whose requests are frames, of any command, known or not. It reads the reply data of known commands, but
+//! only to decide whether a frame is the reply.
 //!
 //! The program `hart` does not call [`unique_of`]. This function is for programs that search for devices with this library.
 //!

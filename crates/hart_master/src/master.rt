@@ -66,7 +66,7 @@ impl Master {
         })
     }
 
-    /// Returns which of the two masters this is.
+    /// Returns whether this is the primary or the secondary master.
     pub fn id(&self) -> MasterId
         ensures { result ≡ self.now.id }
     {
@@ -147,8 +147,8 @@ impl Master {
         }
     }
 
-    /// Like [`Master::send`], but writes the frame over `frame` and returns true. If nothing is due, it returns false and `frame`
-    /// is unchanged.
+    /// Like [`Master::send`], but writes the frame to `frame` and returns true. If nothing is due, the call returns false and leaves
+    /// `frame` unchanged.
     pub fn send_into(&mut self, frame: &mut Frame) -> bool
         ensures sends { IsTrue result ↔ IsSome (frame_sent self.old.id self.old.hand) }
         ensures frame { IfSome (frame_sent self.old.id self.old.hand) (λ sent. frame.new ≡ sent) }
@@ -180,8 +180,8 @@ impl Master {
         }
     }
 
-    /// Hears a delivery. If the delivery has exactly one frame, the master receives that frame as [`Master::receive`] does. Otherwise the
-    /// result is [`MasterEvent::Nothing`], and the master is unchanged.
+    /// Hears a delivery. If the delivery has exactly one frame, the call does the same as [`Master::receive`] with that frame. Otherwise
+    /// the result is [`MasterEvent::Nothing`], and the master is unchanged.
     pub fn hear(&mut self, delivery: &[Char]) -> MasterEvent
         ensures event { IsHeard self.old.hand (DeliveryBrings self.old.id self.old.hand delivery.now) result }
         ensures state { self.new ≡ record self.old { hand = hand_heard self.old.hand result } }

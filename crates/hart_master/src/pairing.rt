@@ -1,4 +1,4 @@
-//! Which requests are sent to which addresses.
+//! Which requests may be sent to which addresses.
 ghost use Rattle.std.specs.Prelude.{◌≡◌};
 ghost use Rattle.hart_master.specs.Pairing.{may_ask, may_go_to, may_send};
 
@@ -6,8 +6,8 @@ use hart_commands::{Request, command_name, may_be_broadcast};
 use hart_frame::Frame;
 use hart_values::Address;
 
-/// Returns true if the request may be sent to this address: only Command 0 to a polling address, only Commands 11 and 21 by
-/// broadcast, and every command to any other address.
+/// Returns true if the request may be sent to this address. Only Command 0 may go to a polling address, and only Commands 11 and 21 may be
+/// broadcast. Every command may go to any other address.
 pub fn may_ask(address: Address, request: &Request) -> bool
     ensures { result ≡ may_ask address request.now }
 {

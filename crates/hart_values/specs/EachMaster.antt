@@ -8,7 +8,7 @@ abbrev pub of_master : {A : Type 0} → MasterId → EachMaster A → A
 of_master Primary each = each.primary
 of_master Secondary each = each.secondary
 
--- The two values after this master's value was replaced. The other master's value stays the same.
+-- The values of both masters, with this master's value replaced by a new value.
 abbrev pub with_master : {A : Type 0} → MasterId → A → EachMaster A → EachMaster A
 with_master Primary a each = record { primary = a; secondary = each.secondary }
 with_master Secondary a each = record { primary = each.primary; secondary = a }

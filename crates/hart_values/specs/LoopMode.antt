@@ -1,4 +1,4 @@
--- Whether the loop current follows the process, as a byte (HCF_SPEC-127).
+-- The loop current mode as a byte (HCF_SPEC-127). The mode says whether the loop current follows the process.
 use Rattle.std.specs.Prelude.{ℕ}
 use Rattle.hart_values.specs.declared.loop_mode.LoopMode.{LoopMode}
 use Rattle.hart_values.specs.declared.loop_mode.LoopMode.TheVariants.{Disabled, Enabled}

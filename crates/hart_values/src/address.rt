@@ -62,7 +62,7 @@ impl Address {
     }
 
     /// Returns the bytes of the address in a message. The first byte includes the master bit and the burst bit. `master` is the master that
-    /// sends or gets the message.
+    /// sends or receives the message.
     pub fn bytes(self, master: MasterId, burst: bool) -> AddressBytes
         ensures { IsAddressBytes master burst self result }
     {

@@ -15,7 +15,7 @@ pub enum ValueFault {
     /// Three bytes are neither a calendar date nor three zeros.
     #[error("bad date")]
     BadDate,
-    /// A number is greater than the greatest number that is allowed.
+    /// A number is above the greatest allowed number.
     #[error("out of range")]
     OutOfRange,
 }

@@ -10,6 +10,7 @@ ghost use Rattle.hart_values.specs.declared.address.Address.{Address};
 use crate::{CommFaults, DeviceStatus};
 
 /// Address bytes determine the master bit, the burst bit and the address, and these three determine the bytes.
+#[tactic(auto, using(crate::proofs::lemmas::Laws::address_bytes_are_unambiguous))]
 pub fn address_bytes_are_unambiguous()
     ensures one_reading { (m n : MasterId) (b c : Bool) (x y : Address) (bytes : List ℕ)
         → IsAddressBytes m b x bytes → IsAddressBytes n c y bytes → (m ≡ n) × (b ≡ c) × (x ≡ y) }
@@ -18,6 +19,7 @@ pub fn address_bytes_are_unambiguous()
 {}
 
 /// A text has at most one packed form, and bytes are the packed form of at most one text.
+#[tactic(auto, using(crate::proofs::lemmas::Laws::packed_text_and_bytes_determine_each_other))]
 pub fn packed_text_and_bytes_determine_each_other()
     ensures one_list { (text bytes others : List ℕ)
         → IsPacked text bytes → IsPacked text others → bytes ≡ others }
@@ -26,18 +28,19 @@ pub fn packed_text_and_bytes_determine_each_other()
 {}
 
 /// A text is refused with at most one fault.
+#[tactic(auto, using(crate::proofs::lemmas::Laws::texts_have_one_fault))]
 pub fn texts_have_one_fault()
     ensures { (characters : ℕ) (text : List ℕ) (fault other : ValueFault)
         → IsTextFault characters text fault → IsTextFault characters text other → fault ≡ other }
 {}
 
-/// The test of a date is true exactly for the bytes of a date.
+/// The test `is_date` is true exactly for the bytes of a date.
 pub fn dates_are_decided()
     ensures date { (bytes : List ℕ) → (is_date bytes ≡ true) ↔ IsDateBytes bytes }
     ensures no_date { (bytes : List ℕ) → (is_date bytes ≡ false) ↔ (¬ IsDateBytes bytes) }
 {}
 
-/// The named communication faults are these bits (HCF_SPEC-099).
+/// The named communication faults have these bits (HCF_SPEC-099).
 pub fn communication_faults_have_their_bits()
     ensures vertical_parity { CommFaults.VERTICAL_PARITY ≡ 0x40 }
     ensures overrun { CommFaults.OVERRUN ≡ 0x20 }
@@ -46,7 +49,7 @@ pub fn communication_faults_have_their_bits()
     ensures buffer_overflow { CommFaults.BUFFER_OVERFLOW ≡ 0x02 }
 {}
 
-/// The named states of a device are these bits of its device status (HCF_SPEC-099).
+/// The named states of a device have these bits in its device status (HCF_SPEC-099).
 pub fn device_states_have_their_bits()
     ensures device_malfunction { DeviceStatus.DEVICE_MALFUNCTION ≡ 0x80 }
     ensures configuration_changed { DeviceStatus.CONFIGURATION_CHANGED ≡ 0x40 }

@@ -1,9 +1,12 @@
 //! The values that a HART message carries, and their bytes (HCF_SPEC-081, HCF_SPEC-099, HCF_SPEC-127).
 //!
 //! Each value of this crate is a value of the standard. If the standard defines how a value is coded in bytes, a relation in `specs/`
-//! states this coding. Two calls convert a value to bytes and back: [`Address::bytes`] and [`Address::read`] for an address,
-//! [`PackedText::from_text`] and [`PackedText::write_text`] for a text, [`HartDate::from_bytes`] and [`HartDate::as_bytes`] for a
-//! date, [`Status::bytes`] and [`Status::read`] for a status.
+//! states this coding. Two calls convert a value to bytes and back:
+//!
+//! - [`Address::bytes`] and [`Address::read`] for an address,
+//! - [`PackedText::from_text`] and [`PackedText::write_text`] for a text,
+//! - [`HartDate::from_bytes`] and [`HartDate::as_bytes`] for a date,
+//! - [`Status::bytes`] and [`Status::read`] for a status.
 //!
 //! ```rust
 //! let address = Address::unique(0x3742, 0x0A1B2C)?;
@@ -26,8 +29,8 @@
 //! - `hart_date`: dates, and the calendar that they are checked against.
 //! - `status`: the two status bytes of a reply: either a response code and a device status, or communication faults.
 //!
-//! All other types are in the root of the crate: small values (one or four bytes) that need no invariant, lists of bytes, and a pair of
-//! values for the two masters. The module [`laws`] states what is proved about the definitions, not about code.
+//! All other types are in the root of the crate: small values of one or four bytes that need no invariant, lists of bytes, a pair of values
+//! for the two masters, and [`ValueFault`]. The module [`laws`] states what is proved about the definitions, not about code.
 #![tactic(auto)]
 
 mod address;

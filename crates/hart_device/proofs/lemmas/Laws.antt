@@ -74,3 +74,6 @@ pub writes_execute_their_overwrite-executes : (state : DeviceState) (frame : Fra
     → overwrite_of request ≡ Some overwrite → effect_of state frame ≡ Executes overwrite
 writes_execute_their_overwrite-executes state frame request overwrite answered zero reading is =
     grind (arith, nat_tests, write_executes request overwrite is)
+
+-- For an attribute of code, which cannot name lemmas with a dash.
+pub ruleset registers_of_lists = (registers_of_lists-first, registers_of_lists-last, registers_of_lists-again)

@@ -1,6 +1,5 @@
--- What a device answers to a frame, and how the frame changes the device (HCF_SPEC-081, HCF_SPEC-127; implementation choice: which frames
--- are
--- answered, and the order of refusals).
+-- What a device answers to a frame, and how the frame changes the device (HCF_SPEC-081, HCF_SPEC-127). Implementation choice: which frames
+-- are answered, and the order of refusals.
 use Rattle.std.specs.Prelude.{ℕ, ◌==◌, ◌&&◌, ◌||◌, not, if◌then◌else◌, Bool, true, false, length, slice_index}
 use Rattle.std.specs.Prelude.{Option, Some, None, Ok, Err}
 use Rattle.std.specs.Str.{bytes_eq}
@@ -26,7 +25,7 @@ use Rattle.hart_device.specs.Device.{DeviceState, Effect, Nothing, Executes, Res
 use Rattle.hart_device.specs.Identity.{own_numbers}
 use Rattle.hart_device.specs.answer.Status.{device_status}
 
--- A request is an STX; an ACK is a device's reply.
+-- Whether a frame is a request: an STX is a request, and an ACK is a reply.
 abbrev pub is_request : FrameKind → Bool
 is_request Stx = true
 is_request Ack = false
@@ -35,15 +34,15 @@ is_request Ack = false
 abbrev pub same_numbers : DeviceNumbers → DeviceNumbers → Bool
 same_numbers a b = (a.expanded_type == b.expanded_type) && (a.device_id == b.device_id)
 
--- The device accepts Command 0 at its polling address, and every command at its own unique address. At the broadcast address it accepts the
--- commands that may be broadcast.
+-- Whether the device accepts a command at an address. At its polling address, the device accepts Command 0. At its own unique address, it
+-- accepts every command. At the broadcast address, it accepts the commands that may be broadcast.
 abbrev pub is_paired : DeviceState → Address → ℕ → Bool
 is_paired state (Polling number) command = (command == 0) && (slice_index state.contents.polling 0 == number)
 is_paired state (Unique numbers) command =
     same_numbers numbers (own_numbers state.identity) || (may_be_broadcast command && is_broadcast (Unique numbers))
 
--- A frame is for the device if it is a request without expansion bytes, and the device accepts the frame's command at the frame's
--- address. The burst bit is ignored.
+-- A frame is for the device if it is a request without expansion bytes, and the device accepts the frame's command at the frame's address.
+-- The burst bit is ignored.
 abbrev pub is_addressed : DeviceState → FrameParts → Bool
 is_addressed state frame =
     is_request frame.kind && (length frame.expansion == 0) && is_paired state frame.address frame.command
@@ -63,20 +62,20 @@ names_another state (Ok (IdentifyByTag tag)) = not (bytes_eq state.contents.tag 
 names_another state (Ok (IdentifyByLongTag long_tag)) = not (bytes_eq state.contents.long_tag long_tag)
 names_another state _ = false
 
--- A frame is answered if it is for the device and names no other device by tag or long tag. A broadcast frame is answered only if
+-- A frame is answered if it is for the device and does not name another device by tag or long tag. A broadcast frame is answered only if
 -- its code is 0.
 abbrev pub is_answered : DeviceState → FrameParts → Bool
 is_answered state frame =
     is_addressed state frame && not (names_another state (reading_of frame))
     && not (is_broadcast frame.address && not (code_of state frame == 0))
 
--- The effect that executes an overwrite, or no effect if there is no overwrite.
+-- The effect of executing an overwrite, or no effect if there is no overwrite.
 abbrev pub executed : Option Overwrite → Effect
 executed None = Nothing
 executed (Some overwrite) = Executes overwrite
 
--- The effect of a request with code 0: Command 38 resets, a configuration write executes its overwrite, and every other request has
--- no effect. Refused data have no effect either.
+-- The effect of a request with code 0: Command 38 resets the configuration-changed bit, a configuration write executes its overwrite, and
+-- every other request has no effect. Refused data have no effect either.
 abbrev pub asked_effect : Reading → Effect
 asked_effect (Ok (ResetChanged counter)) = Resets
 asked_effect (Ok request) = executed (overwrite_of request)
@@ -95,16 +94,17 @@ after_command state frame = after frame.master (effect_of state frame) state
 abbrev pub state_after : DeviceState → FrameParts → DeviceState
 state_after state frame = if is_answered state frame then after_reply frame.master (after_command state frame) else state
 
--- The state after a frame without effect: the reply changes the state, and a frame that is not answered leaves it unchanged.
+-- The state after a frame without effect. If the frame is answered, the reply changes the state. Otherwise the state is unchanged.
 abbrev pub after_refusal : DeviceState → FrameParts → DeviceState
 after_refusal state frame = if is_answered state frame then after_reply frame.master state else state
 
--- The content of the reply to a frame with this judgement: the content for its request, or `Refused` if a code refuses the frame.
+-- The content of the reply to a frame with this judgement (`judged_of`): the content for the request, or `Refused` if the judgement is a
+-- code.
 abbrev pub asked_content : DeviceState → Process → Reading → ReplyContent
 asked_content state process (Ok request) = reply_content state process request
 asked_content state process (Err code) = Refused
 
--- The judgement of an answered frame: its request if the code is 0, and otherwise the code that refuses it.
+-- The judgement of an answered frame: its request if its code is 0, and otherwise its code.
 abbrev pub judged_of : DeviceState → FrameParts → Reading
 judged_of state frame = if code_of state frame == 0 then reading_of frame else Err (code_of state frame)
 
@@ -113,8 +113,8 @@ abbrev pub judged_code : Reading → ℕ
 judged_code (Ok request) = 0
 judged_code (Err code) = code
 
--- The reply to a frame with this judgement, from a device that is in this state after the command. It has the code of the judgement, the
--- device status, and the requested data if the judgement is a request.
+-- The reply to a frame with this judgement, from a device in this state after the command. The reply has the code of the judgement, the
+-- device status, and the content for the judgement.
 abbrev pub reply_with : DeviceState → Process → FrameParts → Reading → Reply
 reply_with state process frame judged = record {
   command = frame.command;
@@ -123,8 +123,8 @@ reply_with state process frame judged = record {
   content = asked_content state process judged;
 }
 
--- The reply to an answered frame follows from its judgement and the state after the command. The cold start bit is cleared only after
--- that, so the reply still shows it.
+-- The reply to an answered frame. It follows from the judgement and from the state after the command. The cold start bit is cleared only
+-- after the reply is made, so the reply still shows this bit.
 abbrev pub reply_of : DeviceState → Process → FrameParts → Reply
 reply_of state process frame = reply_with (after_command state frame) process frame (judged_of state frame)
 

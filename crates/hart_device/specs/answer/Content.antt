@@ -46,8 +46,8 @@ reply_polling state = replied.Polling (slice_index state.contents.polling 0) (sl
 abbrev pub reply_tag : DeviceState → ReplyContent
 reply_tag state = replied.Tag state.contents.tag state.contents.descriptor state.contents.date
 
--- The loop current output, with write protect code 1 if the device is protected and 0 if it is not, and with 250 for the
--- byte that the standard reserves.
+-- The content of a loop current output. The write protect code is 1 if the device is protected and 0 if it is not. The byte that the
+-- standard reserves is 250.
 abbrev pub output_content : OutputValues → Bool → OutputContent
 output_content output protected = record {
   alarm_code = output.alarm_code;
@@ -61,7 +61,7 @@ output_content output protected = record {
   channel_flags = output.channel_flags;
 }
 
--- The content of the reply to each request, with code 0, from a device in this state.
+-- The content of the reply with code 0 to a request, from a device in this state.
 abbrev pub reply_content : DeviceState → Process → Request → ReplyContent
 reply_content state process asked.Identify = reply_identity state process
 reply_content state process asked.ReadPrimary = replied.Primary (unit_value process.first)

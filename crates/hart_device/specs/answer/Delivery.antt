@@ -11,14 +11,14 @@ use Rattle.hart_device.specs.answer.Answer.{answer_of, state_after}
 use Rattle.hart_device.specs.Device.{DeviceState}
 use Rattle.hart_device.specs.answer.Garbled.{HasGarbled, garbled_reply}
 
--- A delivery brings a device one frame, a garbled request, or no message.
+-- What a delivery brings a device: one frame, a garbled request, or no message.
 pub data Brought : Type 0 where
   OneFrame : (frame : FrameParts) → Brought
   Garbled : (request : GarbledRequest) → Brought
   NoMessage : Brought
 
--- A delivery with exactly one frame brings that frame, and a delivery with more frames brings no message. A delivery without a
--- frame brings its garbled request, or no message if it has no garbled request.
+-- A delivery with exactly one frame brings this frame. A delivery with several frames brings no message. A delivery without a frame brings
+-- its garbled request, or no message if it has no garbled request.
 abbrev pub BringsBy : IdentityParts → List Character → List Found → Brought → Type 0
 BringsBy identity delivery (found ∷ []) brought = brought ≡ OneFrame found.frame
 BringsBy identity delivery [] (OneFrame frame) = ⊥
@@ -26,14 +26,14 @@ BringsBy identity delivery [] (Garbled request) = HasGarbled identity delivery r
 BringsBy identity delivery [] NoMessage = (request : GarbledRequest) → HasGarbled identity delivery request → ⊥
 BringsBy identity delivery (found ∷ other ∷ more) brought = brought ≡ NoMessage
 
--- What a delivery brings a device depends on the frames that the delivery has.
+-- What a delivery brings a device, given the frames that the delivery has.
 pub record Brings (identity : IdentityParts) (delivery : List Character) (brought : Brought) : Type 0 where
   pub frames : List Found
   pub are_frames : AreFrames delivery 0 frames
   pub by_frames : BringsBy identity delivery frames brought
 
--- The device answers the frame that a delivery brings, replies to a garbled request with the communication faults of the request,
--- and is silent if the delivery brings no message.
+-- What the device answers: its answer to a frame, the communication-fault reply to a garbled request, and nothing if the delivery brings no
+-- message.
 abbrev pub answer_to : DeviceState → Process → Brought → Option FrameParts
 answer_to state process (OneFrame frame) = answer_of state process frame
 answer_to state process (Garbled request) = Some (garbled_reply state.identity request)

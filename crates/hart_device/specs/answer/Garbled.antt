@@ -1,6 +1,5 @@
--- Requests that a device heard with faults, and its replies to them (HCF_SPEC-081, HCF_SPEC-099; implementation choice: which of these
--- requests a
--- device answers).
+-- Requests that a device heard with faults, and its replies to them (HCF_SPEC-081, HCF_SPEC-099). Implementation choice: which of these
+-- requests a device answers.
 use Rattle.std.specs.Prelude.{◌≡◌, ◌+◌, ◌%◌, ◌==◌, ℕ, Bool, false, List, [], ◌∷◌, ◌++◌, length, map, drop}
 use Rattle.std.specs.Int.{bit_at}
 use Rattle.std.specs.List.{list_any}
@@ -21,7 +20,7 @@ use Rattle.hart_device.specs.Bits.{bit_if}
 abbrev pub has_fault : ℕ → List Character → Bool
 has_fault bit chars = list_any (λ character. bit_at character.faults bit == 1) chars
 
--- Whether an odd number of the characters have this bit set in their byte.
+-- Whether this bit is set in an odd number of the characters' bytes.
 abbrev pub is_odd : List Character → ℕ → Bool
 is_odd chars bit = bit_count bit (map (λ character. character.byte) chars) % 2 == 1
 
@@ -29,9 +28,8 @@ is_odd chars bit = bit_count bit (map (λ character. character.byte) chars) % 2 
 abbrev pub has_odd_bit : List Character → Bool
 has_odd_bit chars = list_any (is_odd chars) (0 ∷ 1 ∷ 2 ∷ 3 ∷ 4 ∷ 5 ∷ 6 ∷ 7 ∷ [])
 
--- The communication faults of characters. Each of the bits hex 40 (vertical parity), 20 (overrun), 10 (framing) and 02 (buffer
--- overflow) is set if at least one character has this fault bit. The bit 08 (longitudinal parity) is set if the exclusive or of the
--- bytes is not zero.
+-- The communication faults of characters. The bits hex 40 (vertical parity), 20 (overrun), 10 (framing) and 02 (buffer overflow) are each
+-- set if at least one character has this fault bit. The bit 08 (longitudinal parity) is set if the exclusive or of the bytes is not zero.
 abbrev pub communication_faults : List Character → ℕ
 communication_faults chars =
     bit_if (has_fault 6 chars) 0x40
@@ -40,17 +38,17 @@ communication_faults chars =
     + bit_if (has_odd_bit chars) 0x08
     + bit_if (has_fault 1 chars) 0x02
 
--- The head of a garbled request has no faults. It is the delimiter hex 82 of a request to a unique address, and then the device's own
--- address. The address names the master that asks, and its burst bit may have either value.
+-- Characters are the head of a garbled request if they have no faults, and are the delimiter hex 82 of a request to a unique address and
+-- then the device's own address. This address names the master that asks, and has a burst bit of either value.
 pub record IsAsking (identity : IdentityParts) (head : List Character) (master : MasterId) : Type 0 where
   pub burst : Bool
   pub address : List ℕ
   pub own : IsAddressBytes master burst (Unique (own_numbers identity)) address
   pub head_is : head ≡ faultless (0x82 ∷ address)
 
--- Characters begin with a garbled request if they begin with its head, a command, a byte count, the number of payload characters that the
+-- Characters begin with a garbled request if they begin with a head, a command, a byte count, the number of payload characters that the
 -- byte count gives, and a check byte. Each character after the head may have any faults. The request has the command as it was heard, and
--- the communication faults of all its characters, from the delimiter to the check byte. A request without any fault has this form too, but
+-- the communication faults of all its characters, from the delimiter to the check byte. A request without any fault has this form too. But
 -- a delivery with such a request has a frame, and so brings no garbled request.
 pub record BeginsWithGarbled (identity : IdentityParts) (chars : List Character) (request : GarbledRequest) : Type 0 where
   pub head : List Character
@@ -64,15 +62,15 @@ pub record BeginsWithGarbled (identity : IdentityParts) (chars : List Character)
   pub command_is : request.command ≡ command.byte
   pub faults_are : request.faults ≡ communication_faults (head ++ command ∷ byte_count ∷ after)
 
--- A list of characters has a garbled request if a garbled request begins at the first place where a body may start. No later place
--- is looked at.
+-- A list of characters has a garbled request if a garbled request begins at the first place where a body may start. No later place is
+-- looked at.
 pub record HasGarbled (identity : IdentityParts) (chars : List Character) (request : GarbledRequest) : Type 0 where
   pub start : ℕ
   pub first_start : IsFirstStart start chars
   pub begins : BeginsWithGarbled identity (drop start chars) request
 
--- The communication-fault reply to a garbled request is an ACK to the master of the request, with the device's own address, the
--- command that was heard, and two bytes: hex 80 joined with the communication faults, then 00.
+-- The communication-fault reply to a garbled request: an ACK to the master that asks, with the device's own address and the command that
+-- was heard. Its payload has two bytes: the communication faults with the bit hex 80, and then 00.
 abbrev pub garbled_reply : IdentityParts → GarbledRequest → FrameParts
 garbled_reply identity request = record {
   kind = Ack;

@@ -1,6 +1,5 @@
--- The commands that the maker of a device adds to those of the tables, and how a device answers them (HCF_SPEC-099; implementation choice:
--- which
--- requests are handed to the maker).
+-- The commands that a device's maker adds to the known commands, and how a device answers them (HCF_SPEC-099).
+-- Implementation choice: which requests are handed to the maker.
 use Rattle.std.specs.Prelude.{ℕ, ◌&&◌, Bool, true, false, not, is_some, List, ◌∷◌, if◌then◌else◌}
 use Rattle.hart_frame.specs.wire.FrameParts.{FrameParts, reply_parts}
 use Rattle.hart_commands.specs.Commands.{command_name}
@@ -9,13 +8,13 @@ use Rattle.hart_device.specs.Device.{DeviceState, counted}
 use Rattle.hart_device.specs.answer.Answer.{is_addressed}
 use Rattle.hart_device.specs.answer.Status.{device_status}
 
--- A frame asks a command of the maker's own if it is for the device and its command is in no table. So its address is the unique address of
--- the device.
+-- Whether a frame asks for one of the maker's own commands: the frame is for the device, and its command is not known. So the frame's
+-- address is the unique address of the device.
 abbrev pub asks_own : DeviceState → FrameParts → Bool
 asks_own state frame = is_addressed state frame && not (is_some (command_name frame.command))
 
--- The state after a command of the maker's own. A write counts as a configuration write that sets no register, and any other command
--- changes nothing.
+-- The state after one of the maker's own commands. If `is_write` is true, the command counts as a configuration write that sets no
+-- register. Otherwise it changes nothing.
 abbrev pub after_own : Bool → DeviceState → DeviceState
 after_own is_write state = if is_write then counted state else state
 

@@ -7,8 +7,8 @@ use Rattle.hart_device.specs.Bits.{bit_if}
 use Rattle.hart_device.specs.Device.{DeviceState}
 use Rattle.hart_device.specs.Process.{has_more_status}
 
--- The bits of the process are hex 80 (device malfunction), 04 (loop current saturated), 02 (non-primary variable out of limits) and 01
--- (primary variable out of limits). The other bits of the process status are ignored.
+-- The bits of the device status that the process sets: hex 80 (device malfunction), 04 (loop current saturated), 02 (non-primary variable
+-- out of limits) and 01 (primary variable out of limits). Other bits of the process status are ignored.
 abbrev pub process_bits : ℕ
 process_bits = 0x87
 
@@ -16,8 +16,8 @@ process_bits = 0x87
 abbrev pub is_loop_current_fixed : DeviceState → Bool
 is_loop_current_fixed state = slice_index state.contents.mode 0 == 0
 
--- Besides the bits of the process, the status for a master has these bits: hex 40 if this master's configuration-changed bit is set, 20 if
--- this master's cold start bit is set, 10 if more status is available, and 08 if the loop current is fixed.
+-- The device status for a master. It has the bits of the process. It also has hex 40 if this master's configuration-changed bit is set, and
+-- 20 if this master's cold start bit is set. It has 10 if more status is available, and 08 if the loop current is fixed.
 abbrev pub device_status : DeviceState → Process → MasterId → ℕ
 device_status state process master =
     bit_or (bit_or (bit_or (bit_or (bit_and process.status process_bits)

@@ -1,22 +1,22 @@
--- The device variables that Command 9 asks for by their codes (HCF_SPEC-127). Own profile: the classification and the status of the
--- variables 244 and 245; the codes 0 to 3 for the dynamic variables.
+-- The device variables that Command 9 asks for by their codes (HCF_SPEC-127). Implementation choice: the classification and the status of
+-- the variables 244 and 245, and the codes 0 to 3 for the dynamic variables.
 use Rattle.std.specs.Prelude.{ℕ, ◌-◌, ◌==◌, ◌&&◌, nat_lt, if◌then◌else◌, [], ◌∷◌, Option, Some, None, slice_get, unwrap_or}
 use Rattle.hart_commands.specs.declared.value.VariableReading.{VariableReading}
 use Rattle.hart_device.specs.declared.process.Process.{Process}
 use Rattle.hart_device.specs.declared.process.ProcessVariable.{ProcessVariable}
 use Rattle.hart_device.specs.Process.{dynamic_variables}
 
--- The percent of range is in unit 57, and has the status of the first variable.
+-- The percent of range as a variable: in unit 57, with the status of the first variable.
 abbrev pub percent_variable : Process → ProcessVariable
 percent_variable process =
     record { classification = 0; unit = 57; value = process.percent_of_range; status = process.first.status }
 
--- The loop current is in unit 39, and has the status of the first variable.
+-- The loop current as a variable: in unit 39, with the status of the first variable.
 abbrev pub current_variable : Process → ProcessVariable
 current_variable process =
     record { classification = 0; unit = 39; value = process.loop_current; status = process.first.status }
 
--- An absent variable has classification 0, unit 250, the value 7F A0 00 00 and the status hex 30.
+-- The values that a reading has if the process lacks the variable: classification 0, unit 250, value 7F A0 00 00 and status hex 30.
 abbrev pub missing_variable : ProcessVariable
 missing_variable = record {
   classification = 0;
@@ -25,8 +25,8 @@ missing_variable = record {
   status = 0x30;
 }
 
--- The place of the dynamic variable with this code. The codes 0 to 3, and also 246 to 249, have the places 0 to 3. Any other code has no
--- place (`None`).
+-- The place of the dynamic variable with this code. Codes 0 to 3 have the places 0 to 3, and so have codes 246 to 249. Any other code has
+-- no place (`None`).
 abbrev pub place_of : ℕ → Option ℕ
 place_of code =
     if nat_lt code 4 then Some code
@@ -39,7 +39,7 @@ dynamic_at process None = None
 dynamic_at process (Some place) = slice_get (dynamic_variables process) place
 
 -- The variable of a code: 244 is the percent of range, 245 the loop current, and 246 to 249 and 0 to 3 are dynamic variables. Any other
--- code means an absent variable, and so does the code of a dynamic variable that the process does not have.
+-- code gives `missing_variable`, and so does the code of a dynamic variable that the process does not have.
 abbrev pub variable_of_code : Process → ℕ → ProcessVariable
 variable_of_code process code =
     if code == 244 then percent_variable process

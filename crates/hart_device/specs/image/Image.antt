@@ -14,25 +14,25 @@ use Rattle.hart_device.specs.Device.{DeviceState}
 use Rattle.hart_device.specs.Identity.{two_bytes}
 use Rattle.hart_device.specs.registers.Ranges.{standing_for}
 
--- The flags: bit 0 is the primary master's configuration-changed bit, bit 1 the secondary's, and bit 2 says that the device is
--- write protected; the other bits are zero.
+-- The flags of an image: bit 0 is the primary master's configuration-changed bit, bit 1 the secondary master's, and bit 2 the write
+-- protection of the device. The other bits are zero.
 abbrev pub flags_of : EachMaster Bool → Bool → ℕ
 flags_of changed protected =
     bit_if changed.primary 1 + bit_if changed.secondary 2 + bit_if protected 4
 
--- The registers of an image of version 1, in their order, are all registers except the long tag.
+-- The registers in an image of version 1, in order: all except the long tag.
 abbrev pub registers_of_version_1 : List Register
 registers_of_version_1 = Polling ∷ Mode ∷ Message ∷ Tag ∷ Descriptor ∷ Date ∷ Assembly ∷ []
 
--- The registers in an image of each version: version 1 has all registers except the long tag, version 2 has all registers, and
--- other versions are not known.
+-- The registers in an image of this version. Version 1 has all registers except the long tag, and version 2 has all registers. Other
+-- versions are not known.
 abbrev pub registers_of_version : ℕ → Option (List Register)
 registers_of_version version =
     if version == 1 then Some registers_of_version_1
     else if version == 2 then Some registers
     else None
 
--- The long tag that belongs to a tag is the text of the tag, followed by 24 spaces.
+-- The long tag that follows from a tag: the text of the tag, followed by 24 spaces.
 abbrev pub IsLongTagOf : List ℕ → List ℕ → Type 0
 IsLongTagOf tag long_tag = (text : List ℕ) × IsPacked text tag × (long_tag ≡ text ++ replicate 24 0x20)
 
@@ -44,9 +44,9 @@ image_ending state = two_bytes state.counter ++ flags_of state.changed state.pro
 abbrev pub image_bytes : ℕ → List Register → DeviceState → List ℕ
 image_bytes version listed state = version ∷ (flat_map (bytes_in state.contents) listed ++ image_ending state)
 
--- Bytes are an image of a device's state if they are what `image_bytes` writes of this state in a known version. Every register of the
--- state holds valid bytes, and the counter of the state is below 65536. If images of that version have no long tag, the state has the long
--- tag that belongs to its tag. An image has neither the identity of the device nor its cold start bits.
+-- Bytes are an image of a device's state if `image_bytes` writes them for this state in a known version. Every register of the state must
+-- also hold valid bytes, and its counter must be below 65536. If images of that version have no long tag, the state's long tag must follow
+-- from its tag (`IsLongTagOf`). An image has neither the identity of the device nor its cold start bits.
 pub record IsImageOf (state : DeviceState) (image : List ℕ) : Type 0 where
   pub contents : AreValid state.contents
   pub counter : state.counter < 2 ^ 16
@@ -64,20 +64,19 @@ IsImage image = (state : DeviceState) × IsImageOf state image
 abbrev pub image_of : DeviceState → List ℕ
 image_of state = image_bytes 2 registers state
 
--- The length of an image: a byte for its version, the bytes of its registers, two for the counter and one for the flags.
+-- The length of an image: one byte for its version, the bytes of its registers, two bytes for the counter and one byte for the flags.
 abbrev pub image_length : List Register → ℕ
 image_length listed = 1 + sum_by size_of listed + 2 + 1
 
--- An array has invalid bytes for at least one of these registers.
+-- Whether an array holds invalid bytes for at least one of these registers.
 abbrev pub HasBadRegister : List Register → List ℕ → Type 0
 HasBadRegister listed array = (register : Register) × Contains listed register × ¬ IsValidIn register (standing_for register array)
 
--- An image with these registers has a bad field if its bytes for one of these registers are invalid, or if its last byte, the
--- flags, is above 7.
+-- An image with these registers has a bad field if a register has invalid bytes, or if the last byte, the flags, is above 7.
 abbrev pub HasBadField : List Register → List ℕ → Type 0
 HasBadField listed image = HasBadRegister listed (drop 1 image) ⊎ (7 < slice_index image (length image - 1))
 
--- Bytes are refused as an image for the first of these reasons that holds: there are no bytes (a bad length); the version is not known;
+-- Bytes are refused as an image for the first of these reasons that applies: there are no bytes (a bad length); the version is not known;
 -- images of this version have another length; a field is bad.
 abbrev pub IsImageFault : List ℕ → DeviceFault → Type 0
 IsImageFault [] BadLength = Unit {0}

@@ -27,6 +27,6 @@ standing_for register array = slice_range array (start_of register) (end_of regi
 abbrev pub contents_in : List ℕ → Contents
 contents_in array = contents_by (λ register. standing_for register array)
 
--- An array has invalid bytes for some register other than the long tag. Any bytes are valid for the long tag.
+-- Whether an array holds invalid bytes for a register. Any bytes are valid in the long tag, so only the other registers matter.
 abbrev pub HoldsInvalid : List ℕ → Type 0
 HoldsInvalid array = (register : Register) × (register ≢ LongTag) × ¬ IsValidIn register (standing_for register array)

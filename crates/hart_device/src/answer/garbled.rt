@@ -42,7 +42,7 @@ impl GarbledRequest {
     }
 }
 
-/// Finds the garbled request to the device with this identity in a delivery, or returns `None`.
+/// Finds the garbled request in a delivery to the device with this identity. Returns `None` if the delivery has no garbled request.
 ///
 /// The search looks only at the first place where a body may start.
 pub(crate) fn garbled_in(identity: &Identity, delivery: &[Char]) -> Option<GarbledRequest>
@@ -52,7 +52,7 @@ pub(crate) fn garbled_in(identity: &Identity, delivery: &[Char]) -> Option<Garbl
     garbled_at(identity, &delivery[first_start(delivery)?..])
 }
 
-/// Reads the garbled request with which the characters begin, or returns `None` if they begin with none.
+/// Reads the garbled request at the front of the characters. Returns `None` if no garbled request begins there.
 fn garbled_at(identity: &Identity, chars: &[Char]) -> Option<GarbledRequest>
     ensures { MatchOption result ((request : GarbledRequest) → BeginsWithGarbled identity.now chars.now request → ⊥)
         (BeginsWithGarbled identity.now chars.now) }
@@ -68,8 +68,8 @@ fn garbled_at(identity: &Identity, chars: &[Char]) -> Option<GarbledRequest>
     })
 }
 
-/// Reads the first six characters of a request, and returns the master that sent it. The characters must have no faults, and be the
-/// delimiter and the unique address of the device with this identity. Otherwise the result is `None`.
+/// Reads the first six characters of a request, and returns the master that sent it. Returns `None` if a character has a fault. Returns
+/// `None` too if the bytes are not the delimiter hex 82 and the unique address of the device with this identity.
 fn asking_master(identity: &Identity, head: &[Char]) -> Option<MasterId>
     ensures { MatchOption result ((master : MasterId) → IsAsking identity.now head.now master → ⊥) (IsAsking identity.now head.now) }
 {
@@ -81,7 +81,7 @@ fn asking_master(identity: &Identity, head: &[Char]) -> Option<MasterId>
     Some(master)
 }
 
-/// Returns the bytes of six characters without faults. Otherwise the result is `None`.
+/// Returns the bytes of six characters without faults. Returns `None` for any other number of characters, and if a character has a fault.
 #[tactic(auto, using(std::proofs::lemmas::Grind::common_steps, std::proofs::lemmas::Bool::Decides::nat_tests))]
 fn bytes_of_head(head: &[Char]) -> Option<[u8; 6]>
     ensures bytes { IfSome result (λ bytes. head.now ≡ faultless bytes) }
@@ -113,8 +113,8 @@ fn is_own(identity: &Identity, address: Address) -> bool
     }
 }
 
-/// Returns the communication faults of the characters. Longitudinal parity does not follow from the fault bits: each occurs without the
-/// other.
+/// Returns the communication faults of the characters. The bit for longitudinal parity depends only on the bytes of the characters, and the
+/// other bits only on their fault bits.
 fn communication_faults(chars: &[Char]) -> CommFaults
     ensures { result ≡ communication_faults chars.now }
 {
@@ -126,7 +126,7 @@ fn communication_faults(chars: &[Char]) -> CommFaults
     CommFaults::new(faults).unwrap()
 }
 
-/// Returns the fault bit `fault` if one of the characters has it, and otherwise 0.
+/// Returns `fault` if one of the characters has this fault bit, and otherwise 0.
 fn fault_if(chars: &[Char], fault: u8) -> u8
     ensures { (bit : ℕ) → fault ≡ 2 ^ bit → result ≡ bit_if (has_fault bit chars.now) fault }
 {

@@ -1,4 +1,4 @@
-//! The process of the device in its replies (HCF_SPEC-127).
+//! The values of a `Process` in the form in which replies contain them (HCF_SPEC-127).
 ghost use Rattle.std.specs.Prelude.{◌≡◌, [], ◌∷◌, map};
 ghost use Rattle.hart_device.specs.answer.Content.{unit_value, class_at, output_content};
 ghost use Rattle.hart_device.specs.Process.{dynamic_variables};

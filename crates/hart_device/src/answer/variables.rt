@@ -20,7 +20,7 @@ const MILLIAMPERE: u8 = 39;
 /// The code of the first dynamic variable.
 const FIRST: u8 = 246;
 
-/// The values that stand for an absent variable.
+/// The values that a reading has if the process lacks the variable.
 const MISSING: ProcessVariable = ProcessVariable {
     classification: 0,
     unit: 250,
@@ -28,7 +28,7 @@ const MISSING: ProcessVariable = ProcessVariable {
     status: 0x30,
 };
 
-/// Returns the variable of each code.
+/// Returns the reading of each code: the code and its variable.
 pub(crate) fn variable_readings(
     process: &Process,
     codes: &CodeList,
@@ -42,7 +42,7 @@ pub(crate) fn variable_readings(
     readings
 }
 
-/// Returns the variable of a code, or the values that stand for an absent variable.
+/// Returns the reading of a code: the code, and its variable. If the process has no variable for this code, the reading has [`MISSING`].
 fn variable_reading(process: &Process, code: u8) -> VariableReading
     ensures { result ≡ variable_reading process.now code }
 {

@@ -5,7 +5,7 @@ ghost use Rattle.hart_device.specs.registers.Ranges.{end_of, start_of};
 use hart_commands::Register;
 use std::ops::Range;
 
-/// The number of bytes of all registers.
+/// The number of bytes of all registers together.
 pub(crate) const ARRAY_LEN: usize = 82;
 
 /// Returns the range of a register in the array.

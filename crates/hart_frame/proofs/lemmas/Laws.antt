@@ -50,3 +50,7 @@ next_frames_are_all-all chars ended given next =
     rw append-nil at
     (next_frames chars ended 0 (length chars) given [] next
     (AreFrames.none (length chars) (HasNoFrame-end chars (length chars) (omega arith))))
+
+-- An attribute in code cannot name lemmas with a dash in their names, so it names this rule set.
+pub ruleset held_characters_have_the_later_frames =
+    (frames_are_streamed-pushed, held_characters_have_the_later_frames-held, held_characters_have_the_later_frames-later)

@@ -1,4 +1,4 @@
--- How frames are found: by the scanner while they are heard, and in bytes where they lie.
+-- How frames are found: by the scanner while they are heard, and in bytes in memory.
 pub mod Scan
 pub mod Candidate
 pub mod Search

@@ -11,7 +11,7 @@ use Rattle.hart_frame.specs.wire.Parity.{HasEvenParity}
 abbrev pub HasNoTwoPreambles : List Character → Type 0
 HasNoTwoPreambles chars = (prefix rest : List Character) → chars ≡ prefix ++ faultless (255 ∷ 255 ∷ []) ++ rest → ⊥
 
--- A character is marked if it has a fault bit, whatever its byte.
+-- A character is marked if it has a fault bit. Its byte may have any value.
 pub record IsMarked (character : Character) : Type 0 where
   pub byte : character.byte < 256
   pub fault_bits : AreFaultBits character.faults
@@ -22,8 +22,8 @@ abbrev pub IsHeardOrMarked : ℕ → Character → Type 0
 IsHeardOrMarked byte character = (character ≡ record { byte = byte; faults = 0 }) ⊎ IsMarked character
 
 -- Damage to a message of `preambles` preamble bytes and a body. The last `left` preamble bytes are heard, and the earlier preamble bytes
--- are missing. `AreHeard` says how these `left` bytes and the body are heard. No two faultless FF in a row are heard after the delimiter,
--- since another frame could begin there.
+-- are missing. `AreHeard` says how these `left` bytes and the body are heard. After the delimiter, no two faultless FF in a row are heard,
+-- because another frame could begin there.
 pub record IsDamage (frame : FrameParts) (preambles : ℕ) (chars : List Character) (AreHeard : ℕ → List ℕ → Type 0) : Type 0 where
   pub left : ℕ
   pub left_within : left ≤ preambles
@@ -32,20 +32,21 @@ pub record IsDamage (frame : FrameParts) (preambles : ℕ) (chars : List Charact
   pub heard : AreHeard left body
   pub no_two_preambles : HasNoTwoPreambles (drop (left + 1) chars)
 
--- Marked damage: each byte of the message that is not missing is heard unchanged and without faults, or as any marked character.
+-- Marked damage: the last `left` preamble bytes and the body are heard, each byte either unchanged and without faults, or as any marked
+-- character.
 abbrev pub IsMarkedDamage : FrameParts → ℕ → List Character → Type 0
 IsMarkedDamage frame preambles chars =
     IsDamage frame preambles chars (λ left body. AllZip IsHeardOrMarked (replicate left 255 ++ body) chars)
 
--- Bytes replace a body if they have its length, its delimiter and its byte count; their other bytes may have any value.
+-- Bytes can replace a body if they have the length, the delimiter and the byte count of the body. The other bytes may have any value.
 pub record Replaces (bytes body : List ℕ) : Type 0 where
   pub same_length : length bytes ≡ length body
   pub same_delimiter : delimiter_in bytes ≡ delimiter_in body
   pub same_byte_count : byte_count_in bytes ≡ byte_count_in body
   pub bytes_fit : All (λ byte. byte < 256) bytes
 
--- Check damage: bytes that replace the body are heard in its place, and every character is heard without faults. The parity of these bytes
--- is not even, so their exclusive or is not zero.
+-- Check damage: other bytes are heard in place of the body, and every character is heard without faults. These bytes can replace the body.
+-- Their parity is not even, so their exclusive or is not zero.
 abbrev pub IsCheckDamage : FrameParts → ℕ → List Character → Type 0
 IsCheckDamage frame preambles chars = IsDamage frame preambles chars (λ left body. (bytes : List ℕ) × Replaces bytes body
     × (chars ≡ faultless (replicate left 255 ++ bytes)) × (HasEvenParity bytes → ⊥))

@@ -17,10 +17,11 @@ faulty_address = faultless (255 ∷ 255 ∷ 2 ∷ []) ++ record { byte = 129; fa
 abbrev pub other_address : List Character
 other_address = faultless (255 ∷ 255 ∷ 2 ∷ 129 ∷ 0 ∷ 0 ∷ 130 ∷ [])
 
--- FF FF 02 81 00 00 83: the check byte is replaced too, so this is the message of another request.
+-- FF FF 02 81 00 00 83: like `other_address`, but with a check byte that fits. So this is the message of another request.
 abbrev pub other_request : List Character
 other_request = faultless (255 ∷ 255 ∷ 2 ∷ 129 ∷ 0 ∷ 0 ∷ 131 ∷ [])
 
--- FF FF 02 FF FF 00 82: the parity is not even. Yet this damage is of neither kind, because two FF in a row are heard after the delimiter.
+-- FF FF 02 FF FF 00 82: the parity is not even. Yet this is neither marked damage nor check damage, because two FF in a row are heard after
+-- the delimiter.
 abbrev pub preamble_in_body : List Character
 preamble_in_body = faultless (255 ∷ 255 ∷ 2 ∷ 255 ∷ 255 ∷ 0 ∷ 130 ∷ [])

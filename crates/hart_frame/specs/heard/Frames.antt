@@ -8,7 +8,7 @@ use Rattle.hart_frame.specs.declared.heard.found.Found.{Found}
 abbrev pub HasNoFrame : List Character → ℕ → Type 0
 HasNoFrame chars from = (found : Found) → StandsIn found chars from → ⊥
 
--- Of the frames of a list from a place on, the first is the frame with the least start.
+-- The first frame of a list from the place `from` on is the frame with the least start.
 pub record IsFirst (found : Found) (chars : List Character) (from : ℕ) : Type 0 where
   pub stands : StandsIn found chars from
   pub least : (other : Found) → StandsIn other chars from → found.start ≤ other.start

@@ -19,7 +19,7 @@ use Rattle.hart_frame.specs.declared.heard.miss.Miss.TheVariants.{BadCheck, OneP
 abbrev pub bytes_from : List Character → ℕ → List ℕ
 bytes_from chars place = faultless_bytes (drop place chars)
 
--- The character at a place has these fault bits, and at least one of them is set.
+-- The character at a place has the fault bits `faults`, which are not 0.
 abbrev pub HasFaultsAt : List Character → ℕ → ℕ → Type 0
 HasFaultsAt chars place faults = (faults ≢ 0) × (byte : ℕ) × (slice_get chars place ≡ Some (record { byte = byte; faults = faults }))
 
@@ -27,11 +27,15 @@ HasFaultsAt chars place faults = (faults ≢ 0) × (byte : ℕ) × (slice_get ch
 abbrev pub ComeToTheEnd : List Character → ℕ → Type 0
 ComeToTheEnd chars place = place + length (bytes_from chars place) ≡ length chars
 
--- What stands in the way of a body at a place where a body may start. `Faulty`: a character with fault bits ends the bytes there too early.
--- `Burst`: the bytes begin with the delimiter of a burst message. `BadDelimiter`: they begin with another byte that is no delimiter.
--- `EndsBeforeByteCount`: what was heard ends before the byte count. `ShortReply`: a reply has a byte count below 2. `Missing`: what was
--- heard ends `count` characters before the end of the check byte. `BadCheck`: the check byte does not fit the bytes before it.
--- `OnePreamble` is never in the way at such a place, because two FF stand before it.
+-- What stands in the way of a body at a place where a body may start:
+-- `Faulty`: the bytes end too early for a body, because a character with fault bits follows.
+-- `Burst`: the bytes begin with the delimiter of a burst message.
+-- `BadDelimiter`: the bytes begin with another byte that is no STX or ACK delimiter.
+-- `EndsBeforeByteCount`: what was heard ends before the byte count.
+-- `ShortReply`: a reply has a byte count below 2.
+-- `Missing`: what was heard lacks the last `count` characters of the body.
+-- `BadCheck`: the check byte does not fit the bytes before it.
+-- `OnePreamble` is never in the way at such a place, because two FF stand before the place.
 abbrev pub IsInTheWay : List Character → ℕ → Miss → Type 0
 IsInTheWay chars start (Faulty place faults) =
     IsTruncated (bytes_from chars start) × (place ≡ start + length (bytes_from chars start)) × HasFaultsAt chars place faults
@@ -69,8 +73,8 @@ pub record FollowsOnePreamble (chars : List Character) (place : ℕ) : Type 0 wh
   pub place_is : place ≡ length prefix + 1
   pub alone : (earlier : List Character) → prefix ≢ earlier ++ faultless (255 ∷ [])
 
--- A miss is the reason why no frame stands at a place. Where a body may start, the miss is what stands in its way. Where a whole body
--- stands right after a single faultless FF, the miss is `OnePreamble`. Any other place has no miss.
+-- A miss is the reason why no frame stands at a place. Where a body may start, the miss is what stands in the way of a body. Where a whole
+-- body stands right after a single faultless FF, the miss is `OnePreamble`. Any other place has no miss.
 abbrev pub IsMiss : List Character → ℕ → Miss → Type 0
 IsMiss chars start miss =
     (IsStart start chars × IsInTheWay chars start miss)

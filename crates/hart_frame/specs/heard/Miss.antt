@@ -1,6 +1,5 @@
 -- The miss of a place, found step by step (HCF_SPEC-081; implementation choice). By the law `misses_are_in_the_way`, it is exactly the miss
--- that
--- `IsMiss` of InTheWay describes. The texts of `explain` and the sightings of a list use `miss_of`.
+-- that `InTheWay.IsMiss` describes. The texts of `explain` and the sightings of a list use `miss_of`.
 use Rattle.std.specs.Prelude.{◌+◌, ◌-◌, ◌%◌, ◌==◌, ◌&&◌, not, nat_le, nat_lt, if◌then◌else◌, ℕ, zero, suc, Bool, false}
 use Rattle.std.specs.Prelude.{List, Option, None, Some, drop, fold, is_none, length, slice_get, slice_index, take, bit_xor}
 use Rattle.std.specs.Option.{option_map_or}
@@ -11,7 +10,7 @@ use Rattle.hart_frame.specs.declared.heard.miss.Miss.{Miss}
 use Rattle.hart_frame.specs.declared.heard.miss.Miss.TheVariants.{Faulty, Burst, BadDelimiter, EndsBeforeByteCount, ShortReply, Missing}
 use Rattle.hart_frame.specs.declared.heard.miss.Miss.TheVariants.{BadCheck, OnePreamble}
 
--- Why a first byte is no delimiter of this profile: it is the delimiter of a burst message, or some other byte.
+-- Why a first byte is no STX or ACK delimiter: it is the delimiter of a burst message, or some other byte.
 abbrev pub delimiter_miss : ℕ → Miss
 delimiter_miss byte = if is_burst_delimiter byte then Burst else BadDelimiter byte
 
@@ -23,14 +22,14 @@ check_miss bytes start =
     let fits = fold bit_xor 0 (take last bytes) in
     if slice_index bytes last == fits then None else Some (BadCheck (start + last) (slice_index bytes last) fits)
 
--- The miss where the faultless bytes stop too early: the character with fault bits at that place, or the miss `at_end` if the list
--- ends there.
+-- The miss of faultless bytes that end too early: the character with fault bits at `place`, right after them, or the miss `at_end` if the
+-- list ends there.
 abbrev pub faulty_or : Option Character → ℕ → Miss → Miss
 faulty_or None place at_end = at_end
 faulty_or (Some character) place at_end = Faulty place character.faults
 
--- Why no body begins at `start`, or `None` if a body begins there. The first condition that holds decides. `bytes` are the faultless bytes
--- from `start` on. `faulty` is the character with fault bits after them, if there is one, and `faulty_place` is its place.
+-- Why no body begins at `start`, or `None` if a body begins there. The first condition that applies decides. `bytes` are the faultless
+-- bytes from `start` on. `faulty` is the character with fault bits after them, if there is one, and `faulty_place` is its place.
 abbrev pub miss_in : List ℕ → Option Character → ℕ → ℕ → Option Miss
 miss_in bytes faulty faulty_place start =
     if length bytes == 0 then Some (faulty_or faulty faulty_place EndsBeforeByteCount)

@@ -5,8 +5,8 @@ use Rattle.hart_frame.specs.heard.Character.{Character, faultless}
 use Rattle.hart_frame.specs.wire.Refusal.{IsTruncated}
 use Rattle.hart_frame.specs.declared.heard.found.Found.{Found}
 
--- A frame stands in a list from a place on if two faultless preamble bytes FF stand at or after that place, and the body of the frame, in
--- faultless characters, follows them directly. The frame starts after the two FF, and stops after its body.
+-- A frame stands in a list at or after the place `from`: two faultless preamble bytes FF stand there, and the frame's body follows
+-- directly, in faultless characters. The frame starts after the two FF, and stops after its body.
 pub record StandsIn (found : Found) (chars : List Character) (from : ℕ) : Type 0 where
   pub prefix : List Character
   pub body : List ℕ
@@ -26,7 +26,7 @@ pub record IsOpen (place : ℕ) (chars : List Character) : Type 0 where
   pub start : place ≡ length prefix + 2
   pub truncated : IsTruncated bytes
 
--- A frame stands at a place of a list.
+-- A frame starts at this place of a list.
 abbrev pub HasFrameAt : List Character → ℕ → Type 0
 HasFrameAt chars place = (found : Found) × StandsIn found chars 0 × (found.start ≡ place)
 

@@ -13,14 +13,14 @@ use Rattle.hart_frame.specs.declared.heard.found.Found.{Found}
 use Rattle.hart_frame.specs.declared.heard.miss.Miss.{Miss}
 use Rattle.hart_frame.specs.declared.heard.miss.Miss.TheVariants.{BadCheck, Faulty}
 
--- A sighting: a message, or a place where a message seems to start but no frame stands. Such a missed place comes with the reason and with
--- the header that is heard there, if any.
+-- A sighting: a message, or a place where a message seems to start but no frame stands. `Missed` has the place, the reason, and the header
+-- that is heard there, if any.
 pub data Seen : Type 0 where
   Message : (found : Found) → Seen
   Missed : (place : ℕ) (miss : Miss) (header : Option HeaderParts) → Seen
 
--- The same miss, with the place that it names counted in the whole list, and no longer from the place `from` of the list. A miss that names
--- no place is unchanged.
+-- A miss, moved: the place that it names is increased by `from`, so that it counts from the first character of the list and no longer from
+-- the place `from`. A miss that names no place is unchanged.
 abbrev pub miss_in_whole : ℕ → Miss → Miss
 miss_in_whole from (Faulty place faults) = Faulty (from + place) faults
 miss_in_whole from (BadCheck place byte fits) = BadCheck (from + place) byte fits
@@ -39,29 +39,30 @@ has_two_preambles bytes = list_any (λ (byte, next). (byte == 255) && (next == 2
 abbrev pub two_begin_in_body : List Character → ℕ → Bool
 two_begin_in_body chars place = has_two_preambles (take (body_length (bytes_from chars place) + 1) (bytes_from chars place))
 
--- The miss that is seen at a place. It is the miss of that place, with one exception: a whole body after a single FF is not seen if two FF
--- in a row, such as those of the next message, begin within it.
+-- The miss that is seen at a place: the miss of that place, with one exception. A whole body after a single FF is not seen if two FF in a
+-- row, such as those of the next message, begin within that body.
 abbrev pub seen_miss : List Character → ℕ → Option Miss
 seen_miss chars place =
     if follows_one_preamble chars place && two_begin_in_body chars place then None else miss_of chars place
 
--- The header that is heard at a place: the header with which the faultless bytes from there on begin, or `None` if they have none.
+-- The header that is heard at a place: the header at the front of the faultless bytes from there on, or `None` if these bytes have no
+-- header.
 abbrev pub header_at : List Character → ℕ → Option HeaderParts
 header_at chars place = header_in (bytes_from chars place)
 
--- The list of the miss that is seen at a place, with the header that is heard there. It is empty if no miss is seen there. Characters
--- before `from`, the end of the last message, do not count.
+-- A list with at most one sighting: the miss that is seen at a place, with the header that is heard there. Characters before `from`, the
+-- end of the last message, do not count.
 abbrev pub missed_at : List Character → ℕ → ℕ → List Seen
 missed_at chars from place =
     option_map_or (λ miss. Missed place (miss_in_whole from miss) (header_at chars place) ∷ [])
     (seen_miss (drop from chars) (place - from)) []
 
--- The places in a gap between messages where a miss is seen, in order, each with its miss and its header.
+-- The misses that are seen in a gap between messages, in order, each with its place and its header.
 abbrev pub missed : List Character → (from stop : ℕ) → List Seen
 missed chars from stop = flat_map (λ place. missed_at chars from place) (range_with_len from (stop - from))
 
--- The sightings from a place on, if these are the frames from there on: the misses before the first frame, that frame, and then the
--- sightings from its stop on. Without a frame, the sightings are all misses up to the end.
+-- The sightings from a place on, given the frames from there on: the misses before the first frame, that frame, and then the sightings from
+-- its stop on. Without a frame, the sightings are all misses up to the end.
 abbrev pub sightings : List Character → ℕ → List Found → List Seen
 sightings chars from [] = missed chars from (length chars)
 sightings chars from (found ∷ later) = missed chars from found.start ++ Message found ∷ sightings chars found.stop later
@@ -72,8 +73,8 @@ pub record AreSightings (chars : List Character) (from : ℕ) (seen : List Seen)
   pub are_frames : AreFrames chars from frames
   pub seen_is : seen ≡ sightings chars from frames
 
--- The sightings from `from` on are `given`, followed by the sightings from `to` on. This is true whatever characters come later. If `ended`
--- is true, no characters come later.
+-- The sightings from `from` on are `given`, followed by the sightings from `to` on, whatever characters come later. If `ended` is true, no
+-- characters come later.
 abbrev pub SeesOn : List Character → Bool → ℕ → List Seen → ℕ → Type 0
 SeesOn chars ended from given to = (more : List Character) (later : List Seen) → (IsTrue ended → more ≡ [])
     → AreSightings (chars ++ more) to later → AreSightings (chars ++ more) from (given ++ later)

@@ -18,7 +18,7 @@ abbrev pub id_number : PlainAddress → ℕ
 id_number (Polling number) = 0
 id_number (Unique expanded_type device_id) = device_id
 
--- Each number of the address is in its range.
+-- Each number of an address is in its range.
 abbrev pub IsInRange : PlainAddress → Type 0
 IsInRange address =
     (polling_number address < 64) × (type_number address < 2 ^ 14) × (id_number address < 2 ^ 24)

@@ -19,7 +19,8 @@ is_drained Drained = true
 is_drained Busy = false
 is_drained (Stands layout) = false
 
--- With a layout, the state is `Stands`: a frame of this layout stands at the front. Without a layout, the state is `Drained`.
+-- The state of a buffer that was searched. With a layout, it is `Stands`: a frame of this layout stands at the front. Without a layout, it
+-- is `Drained`.
 abbrev pub state_of : Option Layout → State
 state_of None = Drained
 state_of (Some layout) = Stands layout

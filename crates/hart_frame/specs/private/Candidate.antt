@@ -48,20 +48,20 @@ IsCandidate bytes (Never count) = (count ≤ length bytes) × NeverBegin (take c
 IsCandidate bytes Open = MayBegin bytes
 IsCandidate bytes (Whole layout) = IsWhole layout bytes × MayBeginBefore (2 + layout_length layout) bytes
 
--- The limits. It takes 2 to 269 bytes to prove that no frame begins. Bytes that may begin a frame are fewer than 269. A body has at most
--- 267 bytes.
+-- The limits of a candidate. Proving that no frame begins takes 2 to 269 bytes. Bytes that may still begin a frame are fewer than 269. A
+-- body has at most 267 bytes.
 abbrev pub IsShort : List ℕ → Candidate → Type 0
 IsShort bytes (Never count) = (2 ≤ count) × (count ≤ 269)
 IsShort bytes Open = length bytes < 269
 IsShort bytes (Whole layout) = layout_length layout ≤ 267
 
--- How two preamble bytes and bytes after them begin, if those after them begin as a prefix says.
+-- How bytes begin if they are two preamble bytes and a rest. The argument says how this rest begins.
 abbrev pub candidate_of : Prefix → Candidate
 candidate_of (prefix.Whole layout) = Whole layout
 candidate_of (prefix.Cut missing) = Open
 candidate_of (prefix.Wrong wrong) = Never (2 + shown_by wrong)
 
--- A prefix is short if at most 267 bytes show what is wrong, if something is.
+-- A prefix is short if nothing is wrong with it, or if at most 267 bytes show what is wrong.
 abbrev pub IsShortPrefix : Prefix → Type 0
 IsShortPrefix (prefix.Wrong wrong) = shown_by wrong ≤ 267
 IsShortPrefix other = ⊤

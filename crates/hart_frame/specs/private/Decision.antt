@@ -1,4 +1,4 @@
--- What a scanner's buffer decides: that a frame stands in it, or no frame yet (implementation choice).
+-- What a scanner decides from its buffer: a frame stands in it, or no frame is decided yet (implementation choice).
 use Rattle.std.specs.Prelude.{◌≡◌, ◌≤◌, ◌<◌, ◌+◌, ◌⊎◌, ℕ, false, IsTrue, None, MatchOption, List, [], ◌++◌, drop, length}
 use Rattle.std.specs.List.{slice_range}
 use Rattle.std.specs.Option.{option_to_list}
@@ -26,7 +26,7 @@ pub record GivesSpan (old new : Buffer) (span : Span) : Type 0 where
   pub given : (frame : FrameParts) → IsBody frame (body_at new span)
       → Gives (scan_of old) (scan_of new) (record { start = span.start; stop = span.stop; frame = frame })
 
--- The buffer let go of bytes at which no frame begins, and the bytes that it still holds begin with a frame.
+-- The buffer dropped bytes at which no frame begins, and the bytes that it still holds begin with a frame.
 pub record HoldsWhole (old new : Buffer) (layout : Layout) : Type 0 where
   pub moves : MovesPast (scan_of old) (scan_of new) []
   pub busy : is_drained old.state ≡ false

@@ -22,7 +22,7 @@ pub record IsWholeBody (layout : Layout) (bytes : List ℕ) : Type 0 where
   pub even : HasEvenParity bytes
   pub fits : All (λ byte. byte < 256) bytes
 
--- Bytes reach their check byte, the last of the first `len` bytes. It is `byte`, but the byte that fits is `fits`.
+-- The check byte, the last of the first `len` bytes, is `byte`, but the byte that would fit is `fits`.
 pub record HasBadCheck (bytes : List ℕ) (len byte fits : ℕ) : Type 0 where
   pub checked : HasCheckByte bytes
   pub whole : len ≡ body_length bytes
@@ -50,8 +50,8 @@ fault_in (BadDelimiter byte) = fault.BadDelimiter
 fault_in (ShortReply len byte_count) = fault.ShortReply
 fault_in (BadCheck len byte fits) = fault.BadCheck
 
--- How bytes begin. `Whole`: they begin with a whole body. `Cut`: they end too early for a body, either before the byte count or `missing`
--- bytes before the end of the check byte. `Wrong`: something is wrong with them.
+-- How bytes begin. `Whole`: they begin with a whole body. `Cut`: they end too early for a body. Either they end before the byte count, or
+-- they lack the last `missing` bytes of the body. `Wrong`: something is wrong with them.
 abbrev pub IsPrefix : List ℕ → Prefix → Type 0
 IsPrefix bytes (prefix.Whole layout) =
     (layout_length layout ≤ length bytes) × IsWholeBody layout (take (layout_length layout) bytes)

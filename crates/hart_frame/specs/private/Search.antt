@@ -9,7 +9,7 @@ use Rattle.hart_frame.specs.declared.scan.search.SearchResult.{SearchResult}
 abbrev pub NoneBegin : List ℕ → ℕ → ℕ → Type 0
 NoneBegin bytes from to = (place : ℕ) → from ≤ place → place < to → NeverBegin (drop place bytes)
 
--- A list is open from `from` on if a frame may begin at some place from there on, and none begins between `from` and that place.
+-- A list is open from `from` on: a frame may begin at a place from there on, and no frame begins between `from` and that place.
 pub record IsOpenFrom (bytes : List ℕ) (from : ℕ) : Type 0 where
   pub place : ℕ
   pub after : from ≤ place
@@ -40,13 +40,14 @@ pub record IsSearched (bytes : List ℕ) (from seen : ℕ) (found : SearchResult
   pub stands : MatchOption found.layout (IsOpenAll bytes found)
       (λ layout. IsWhole layout (drop found.place (take found.decided bytes)))
 
--- No frame begins at a place from `from` to `to - 1`, whatever follows the list. If the list ended, what follows cannot belong to a frame.
+-- No frame begins at a place from `from` to `to - 1`, whatever may follow the list. If `ended` is true, only nothing or a character with
+-- faults may follow.
 abbrev pub NoneBeginThen : List ℕ → Bool → ℕ → ℕ → Type 0
 NoneBeginThen bytes ended from to = (place : ℕ) → from ≤ place → place < to → (next : List Character)
     → (IsTrue ended → NothingFollows next) → BeginWithNone (faultless (drop place bytes) ++ next)
 
--- No frame is found from a place on if there are no bytes from there on, or if these bytes, at most 268, may begin a frame and more bytes
--- can follow them.
+-- No frame is found from a place on in two cases. Either no bytes stand from there on. Or the bytes from there on, at most 268, may begin a
+-- frame, and more bytes can follow them.
 abbrev pub IsLeftOpen : List ℕ → Bool → ℕ → Type 0
 IsLeftOpen bytes ended place =
     (length bytes ≡ place) ⊎ ((length bytes ≤ place + 268) × MayBegin (drop place bytes) × (ended ≡ false))
@@ -59,12 +60,12 @@ pub record IsSearchedToEnd (bytes : List ℕ) (from : ℕ) (ended : Bool) (found
   pub none : NoneBeginThen bytes ended from found.place
   pub stands : MatchOption found.layout (IsLeftOpen bytes ended found.place) (λ layout. IsWhole layout (drop found.place bytes))
 
--- A pair stands at a place of a list if two preamble bytes and then another byte stand there.
+-- A pair stands at a place of a list if two preamble bytes FF stand there, followed by a byte other than FF.
 abbrev pub HasPair : List ℕ → ℕ → Type 0
 HasPair bytes place = (place + 3 ≤ length bytes) × (slice_index bytes place ≡ 255) × (slice_index bytes (place + 1) ≡ 255)
     × (slice_index bytes (place + 2) ≢ 255)
 
--- No pair stands in a list at a place from `from` on but before `to`.
+-- No pair stands in a list at a place from `from` to `to - 1`.
 abbrev pub HasNoPair : List ℕ → ℕ → ℕ → Type 0
 HasNoPair bytes from to = (place : ℕ) → from ≤ place → place < to → HasPair bytes place → ⊥
 
@@ -74,8 +75,8 @@ pub record IsNextPair (bytes : List ℕ) (from start : ℕ) : Type 0 where
   pub pair : HasPair bytes start
   pub passed : HasNoPair bytes from start
 
--- A search at `place` has looked at the first `decided` bytes: in these no frame begins before `place`, and a prefix of at least
--- `seen` but fewer than `decided` bytes decides nothing.
+-- A search at `place` has looked at the first `decided` bytes. In these bytes no frame begins at a place from `from` to `place - 1`. Each
+-- prefix of at least `seen` but fewer than `decided` bytes decides nothing.
 pub record IsSearching (bytes : List ℕ) (from seen place decided : ℕ) : Type 0 where
   pub after : from ≤ place
   pub order : place ≤ decided

@@ -23,8 +23,8 @@ use Rattle.hart_frame.specs.declared.wire.prefix.Prefix.TheVariants.{Whole}
 use Rattle.hart_frame.specs.declared.scan.view.FoundView.{FoundView}
 use Rattle.hart_frame.specs.scan.Sighting.{NamesPlacesBelow, heard_with}
 
--- A place after `from` is asked if a sighting may stand there: a preamble byte stands right before it, and the place itself has a byte that
--- is no preamble byte, or a character with fault bits.
+-- A search asks about a place after `from` only if a sighting may stand there; such a place is called *asked*. A preamble byte stands right
+-- before an asked place. The place itself has a byte that is no preamble byte, or a character with fault bits.
 pub record IsAsked (bytes : List ℕ) (after : After) (from place : ℕ) : Type 0 where
   pub order : from < place
   pub within : place ≤ length bytes
@@ -32,7 +32,7 @@ pub record IsAsked (bytes : List ℕ) (after : After) (from place : ℕ) : Type 
   pub other : place < length bytes → slice_index bytes place ≢ 255
   pub heard : place < length (heard_with bytes after)
 
--- `Some` holds the next asked place after `from`; `None` says that there is no asked place after `from`.
+-- The next asked place after `from`, or `None` if there is no such place.
 abbrev pub IsNextAsked : List ℕ → After → ℕ → Option ℕ → Type 0
 IsNextAsked bytes after from None = (place : ℕ) → IsAsked bytes after from place → ⊥
 IsNextAsked bytes after from (Some next) =
@@ -44,15 +44,15 @@ MayFollow More next = ⊤
 MayFollow (Damaged character) next = (character.faults ≢ 0) × (more : List Character) × (next ≡ character ∷ more)
 MayFollow End next = next ≡ []
 
--- `holds` is true of the bytes together with any characters that may follow them.
+-- `holds` is true of the bytes followed by any characters that may come after them.
 abbrev pub Whatever : List ℕ → After → (List Character → Type 0) → Type 0
 Whatever bytes after holds = (next : List Character) → MayFollow after next → holds (faultless bytes ++ next)
 
--- The characters from a place on have this miss; it is `None` if they begin with a whole body.
+-- The miss of the characters from a place on, or `None` if they begin with a whole body.
 abbrev pub HasBodyMiss : ℕ → Option Miss → List Character → Type 0
 HasBodyMiss start miss chars = body_miss start (drop start chars) ≡ miss
 
--- Later characters do not change the header at a place: it is the header with which the bytes from there on begin.
+-- Later characters do not change the header at a place: it is the header at the front of the bytes from there on.
 abbrev pub KeepsHeader : List ℕ → ℕ → List Character → Type 0
 KeepsHeader bytes start chars = header_at chars start ≡ header_in (drop start bytes)
 
@@ -60,7 +60,8 @@ KeepsHeader bytes start chars = header_at chars start ≡ header_in (drop start 
 abbrev pub stands_alone : List Character → ℕ → Bool
 stands_alone chars start = is_none (body_miss start (drop start chars)) && not (two_begin_in_body chars start)
 
--- Some characters after the bytes let a body stand alone at a place, and other characters do not.
+-- Whether a body stands alone at a place depends on what follows the bytes. If certain characters follow, a body stands alone there, and if
+-- certain others follow, none does.
 pub record MayStandAlone (bytes : List ℕ) (start : ℕ) : Type 0 where
   pub one : List Character
   pub alone : stands_alone (faultless bytes ++ one) start ≡ true
@@ -74,8 +75,8 @@ pub record LacksOnePreamble (bytes : List ℕ) : Type 0 where
   pub before : slice_index bytes (length bytes - 1) ≡ 255
   pub check : IsCheckByte bytes 255
 
--- What stands at a place right after a single preamble byte. `Nothing`: no body stands alone there, whatever comes. `Open`: it is not
--- decided yet whether a body stands alone there. `Missed`: a body stands alone there, which is a miss.
+-- What stands at a place right after a single preamble byte. `Nothing`: no body stands alone there, whatever comes. `Open`: later bytes
+-- decide whether a body stands alone there. `Missed`: a body stands alone there, which is a miss.
 abbrev pub IsAfterOne : List ℕ → After → ℕ → Standing → Type 0
 IsAfterOne bytes after start Nothing = Whatever bytes after (λ chars. stands_alone chars start ≡ false)
 IsAfterOne bytes after start (Open used) =
@@ -105,7 +106,7 @@ IsStandingAt bytes after from start standing =
     (FollowsTwo bytes from start × IsAfterTwo bytes after start standing)
     ⊎ ((FollowsTwo bytes from start → ⊥) × IsAfterOne bytes after start standing)
 
--- A message starts at `start` and stops at `stop`, and its frame's body lies between them.
+-- A message starts at `start` and stops at `stop`, and the body of its frame lies between these places.
 pub record IsMessageAt (bytes : List ℕ) (start stop : ℕ) (view : FoundView) : Type 0 where
   pub start_is : view.start ≡ start
   pub stop_is : view.stop ≡ stop

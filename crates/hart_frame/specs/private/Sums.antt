@@ -3,7 +3,8 @@ use Rattle.std.specs.Prelude.{◌≡◌, ℕ, ◌+◌, ◌≤◌, List, drop, le
 use Rattle.hart_frame.specs.wire.Parity.{IsCheckByte}
 use Rattle.hart_frame.specs.declared.wire.sums.Sums.{Sums}
 
--- Sums belong to bytes if they hold the check byte of each number of bytes from their first place on, up to their last place.
+-- The sums of bytes. The entry `count` of `checks` is the check byte of the `count` bytes from the place `from` on. There is an entry for
+-- each `count` up to `to - from`.
 pub record AreSums (bytes : List ℕ) (sums : Sums) : Type 0 where
   pub order : sums.from ≤ sums.to
   pub within : sums.to ≤ length bytes

@@ -8,9 +8,9 @@ use Rattle.hart_frame.specs.declared.heard.found.Found.{Found}
 use Rattle.hart_frame.specs.declared.scan.view.FoundView.{FoundView}
 
 -- The state of a scanner. `held` are the characters that it holds. `first` is the place of the first held character, or, if no character is
--- held, of the next character to come. `finished` says that no more characters come. `drained` says that the scanner has no frame to give:
--- it is new, or it was asked for a frame and gave none, or it heard a whole chunk that decided no frame. Since then it has heard neither a
--- character nor the finish.
+-- held, of the next character to come. `finished` says that no more characters come. `drained` says that the scanner has no frame to give.
+-- A drained scanner is new, or was asked for a frame and gave none, or heard a whole chunk that decided no frame. Since then it has heard
+-- no character, and its `finish` was not called.
 pub record Scan : Type 0 where
   pub first : ℕ
   pub held : List Character
@@ -25,11 +25,11 @@ new_scan = record { first = 0; held = []; finished = false; drained = true }
 abbrev pub hearing : Scan → List Character → Scan
 hearing scan chars = record scan { held = scan.held ++ chars; drained = false }
 
--- A scanner that hears the finish keeps what it holds. It is not drained, because it has to look at these characters again.
+-- A scanner whose `finish` is called keeps what it holds. It is not drained, because it has to look at these characters again.
 abbrev pub finishing : Scan → Scan
 finishing scan = record scan { finished = true; drained = false }
 
--- A scanner moves past some frames if it lets go of the first `count` characters that it held, and these frames are the next frames up to
+-- A scanner moves past some frames if it drops the first `count` characters that it held, and these frames are the next frames up to
 -- `count`. The places in `found` count from the first character held, and the places in `given` from the first character heard.
 pub record MovesPast (old new : Scan) (given : List Found) : Type 0 where
   pub count : ℕ
@@ -47,8 +47,7 @@ pub record Gives (old new : Scan) (found : Found) : Type 0 where
   pub stop : new.first ≡ found.stop
   pub undrained : (old.drained ≡ false) × (new.drained ≡ false)
 
--- A scanner that waits is not finished, moves past no frame, and is drained. It then holds at most 268 characters, in which nothing
--- is decided.
+-- A scanner that waits is not finished, moves past no frame, and is drained. It then holds at most 268 characters, which decide no frame.
 pub record Waits (old new : Scan) : Type 0 where
   pub going : old.finished ≡ false
   pub moves : MovesPast old new []
@@ -66,6 +65,7 @@ pub record Ends (old new : Scan) : Type 0 where
 abbrev pub GivesNothing : Scan → Scan → Type 0
 GivesNothing old new = Waits old new ⊎ Ends old new
 
--- A call gives a view of the next frame, or no frame. It gives no frame if none is decided yet, or if none is left after the finish.
+-- A call gives a view of the next frame, or no frame. It gives no frame if no frame is decided yet, or if the scanner is finished and no
+-- frame is left.
 abbrev pub GivesNextOrNothing : Scan → Scan → Option FoundView → Type 0
 GivesNextOrNothing old new given = MatchOption given (GivesNothing old new) (λ view. Gives old new (found_of view))

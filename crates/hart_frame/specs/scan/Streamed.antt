@@ -4,8 +4,8 @@ use Rattle.hart_frame.specs.heard.Character.{Character}
 use Rattle.hart_frame.specs.scan.Scanner.{Scan, Ends, Gives, MovesPast, Waits, finishing, hearing, new_scan}
 use Rattle.hart_frame.specs.declared.heard.found.Found.{Found}
 
--- A history has the characters that were pushed to a scanner since it was new, the scanner's state now, and the frames that it gave. Each
--- step is one call. In it the scanner heard a character, a part of a chunk or the finish, or it gave a frame or no frame for now.
+-- The history of a scanner: the characters that were pushed to it since it was new, its state now, and the frames that it gave. Each step
+-- is one call. In that call the scanner heard a character or a part of a chunk, was finished, gave a frame, or gave no frame for now.
 pub data IsHistory : List Character → Scan → List Found → Type 0 where
   begin : IsHistory [] new_scan []
   push : (past : List Character) (scan : Scan) (given : List Found) (character : Character) → IsHistory past scan given
@@ -19,7 +19,7 @@ pub data IsHistory : List Character → Scan → List Found → Type 0 where
   finish : (past : List Character) (scan : Scan) (given : List Found) → IsHistory past scan given
       → IsHistory past (finishing scan) given
 
--- A scanner heard these characters, gave these frames, and ended after its finish.
+-- A scanner heard these characters, gave these frames, was finished, and ended.
 pub record IsWholeHistory (past : List Character) (given : List Found) : Type 0 where
   pub last : Scan
   pub after : Scan

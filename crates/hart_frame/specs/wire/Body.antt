@@ -16,8 +16,8 @@ pub record IsCheckedPart (frame : FrameParts) (bytes : List ℕ) : Type 0 where
   pub expansion_fits : length frame.expansion ≤ 3
   pub payload_fits : IsLongEnough frame.kind frame.payload
 
--- A body of a frame is its checked part and a check byte. All its bytes are below 256, and each of the eight bits is set in an even
--- number of them.
+-- A body of a frame is its checked part and a check byte. All bytes of the body are below 256, and each of the eight bits is set in an even
+-- number of these bytes.
 pub record IsBody (frame : FrameParts) (bytes : List ℕ) : Type 0 where
   pub checked : List ℕ
   pub check : ℕ

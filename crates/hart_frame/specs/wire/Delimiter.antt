@@ -17,19 +17,19 @@ address_type (Polling number) = 0
 address_type (Unique numbers) = 1
 
 -- Bit 7 of a delimiter is the address type, and bits 6 and 5 are the number of expansion bytes. Bits 4 and 3 are the physical layer, which
--- is 0 here. Bits 2 to 0 are the kind of frame.
+-- is always 0. Bits 2 to 0 are the kind of frame.
 abbrev pub delimiter_of : FrameParts → ℕ
 delimiter_of frame = 128 * address_type frame.address + 32 * length frame.expansion + kind_code frame.kind
 
--- A delimiter of this profile has bits 4 and 3 zero, and in bits 2 to 0 the kind of an STX or of an ACK.
+-- Whether a byte is the delimiter of an STX or an ACK: bits 4 and 3 are zero, and bits 2 to 0 are the kind.
 abbrev pub is_delimiter : ℕ → Bool
 is_delimiter byte = (byte / 8 % 4 == 0) && ((byte % 8 == 2) || (byte % 8 == 6))
 
--- A byte is a delimiter of this profile.
+-- A byte is the delimiter of an STX or an ACK.
 abbrev pub IsDelimiter : ℕ → Type 0
 IsDelimiter byte = IsTrue (is_delimiter byte)
 
--- The delimiter of a burst message has bits 4 and 3 zero, and 1 in bits 2 to 0.
+-- Whether a byte is the delimiter of a burst message: bits 4 and 3 are zero, and bits 2 to 0 are 1.
 abbrev pub is_burst_delimiter : ℕ → Bool
 is_burst_delimiter byte = (byte / 8 % 4 == 0) && (byte % 8 == 1)
 

@@ -1,11 +1,11 @@
--- What a contract sees of a frame (HCF_SPEC-081).
+-- A frame, as contracts describe it (HCF_SPEC-081).
 use Rattle.std.specs.Prelude.{ℕ, ◌≤◌, Bool, false, List, [], length}
 use Rattle.hart_values.specs.declared.master_id.MasterId.{MasterId}
 use Rattle.hart_values.specs.declared.address.Address.{Address}
 use Rattle.hart_frame.specs.declared.wire.kind.FrameKind.{FrameKind}
 use Rattle.hart_frame.specs.declared.wire.kind.FrameKind.TheVariants.{Stx, Ack}
 
--- A frame consists of these parts, whatever bytes carry them.
+-- The parts of a frame, whatever bytes carry them.
 pub record FrameParts : Type 0 where
   pub kind : FrameKind
   pub master : MasterId
@@ -15,7 +15,7 @@ pub record FrameParts : Type 0 where
   pub command : ℕ
   pub payload : List ℕ
 
--- Own profile: an ACK's payload has at least its two status bytes; an STX's payload may have any length.
+-- Implementation choice: an ACK's payload has at least its two status bytes, and an STX's payload may have any length.
 abbrev pub IsLongEnough : FrameKind → List ℕ → Type 0
 IsLongEnough Stx payload = Unit {0}
 IsLongEnough Ack payload = 2 ≤ length payload

@@ -1,4 +1,4 @@
--- The header of a frame, and the header with which bytes begin (HCF_SPEC-081).
+-- The header of a frame, and the header at the front of bytes (HCF_SPEC-081).
 use Rattle.std.specs.Prelude.{◌+◌, ◌*◌, ◌/◌, ◌%◌, ◌==◌, ◌&&◌, nat_lt, if◌then◌else◌, ℕ, List, Option, None, Some, length, slice_index}
 use Rattle.hart_values.specs.declared.address.Address.{Address}
 use Rattle.hart_values.specs.declared.address.Address.TheVariants.{Polling, Unique}
@@ -12,7 +12,7 @@ use Rattle.hart_frame.specs.wire.Delimiter.{is_delimiter}
 use Rattle.hart_frame.specs.wire.FrameParts.{FrameParts}
 use Rattle.hart_frame.specs.wire.Layout.{command_place, delimiter_in}
 
--- A header has the kind, the master, the address and the command of a frame.
+-- The header of a frame: its kind, master, address and command.
 pub record HeaderParts : Type 0 where
   pub kind : FrameKind
   pub master : MasterId
@@ -31,8 +31,8 @@ kind_in bytes = if delimiter_in bytes % 8 == 6 then Ack else Stx
 abbrev pub master_in : List ℕ → MasterId
 master_in bytes = if slice_index bytes 1 / 128 == 1 then Primary else Secondary
 
--- A polling address is the lower six bits of its byte. In the five bytes of a unique address, these six bits and the second byte are the
--- expanded device type, and the other three bytes are the device id. Bit 7 of the delimiter says which kind of address it is.
+-- A polling address is the lower six bits of its byte. A unique address has five bytes. The lower six bits of the first byte and the second
+-- byte are the expanded device type, and the other three bytes are the device id. Bit 7 of the delimiter says which kind of address it is.
 abbrev pub address_in : List ℕ → Address
 address_in bytes =
     if delimiter_in bytes / 128 == 1
@@ -42,7 +42,7 @@ address_in bytes =
     })
     else Polling (slice_index bytes 1 % 64)
 
--- The header with which bytes begin. Bytes have a header exactly if they begin with a delimiter of this profile and reach the command.
+-- The header at the front of bytes. Bytes have a header exactly if they begin with an STX or ACK delimiter and reach the command.
 unfoldable pub header_in : List ℕ → Option HeaderParts
 header_in bytes =
     if is_delimiter (delimiter_in bytes) && nat_lt (command_place bytes) (length bytes)
@@ -54,7 +54,7 @@ header_in bytes =
     })
     else None
 
--- What a value of the type `Header` of the code says.
+-- The header parts of a value of the code's type `Header`.
 abbrev pub header_parts : Header → HeaderParts
 header_parts header = record {
   kind = header.kind;

@@ -21,6 +21,7 @@ byte_count_place bytes = command_place bytes + 1
 abbrev pub byte_count_in : List ℕ → ℕ
 byte_count_in bytes = slice_index bytes (byte_count_place bytes)
 
--- The length of a body: the bytes up to and with the byte count, the payload, and the check byte. The byte count is the payload's length.
+-- The length of a body: the bytes up to and including the byte count, the payload, and the check byte. The byte count is the payload's
+-- length.
 abbrev pub body_length : List ℕ → ℕ
 body_length bytes = byte_count_place bytes + byte_count_in bytes + 2

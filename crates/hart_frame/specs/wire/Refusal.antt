@@ -7,7 +7,7 @@ use Rattle.hart_frame.specs.wire.Delimiter.{IsDelimiter}
 use Rattle.hart_frame.specs.wire.Layout.{delimiter_in, byte_count_place, byte_count_in, body_length}
 use Rattle.hart_frame.specs.wire.Parity.{HasEvenParity}
 
--- A list begins with a delimiter of this profile.
+-- A list begins with an STX or ACK delimiter.
 abbrev pub HasDelimiter : List ℕ → Type 0
 HasDelimiter bytes = (0 < length bytes) × IsDelimiter (delimiter_in bytes)
 
@@ -15,7 +15,7 @@ HasDelimiter bytes = (0 < length bytes) × IsDelimiter (delimiter_in bytes)
 abbrev pub HasByteCount : List ℕ → Type 0
 HasByteCount bytes = HasDelimiter bytes × (byte_count_place bytes < length bytes)
 
--- A list reaches its byte count, which is at least 2 unless the delimiter is an STX's.
+-- A list reaches its byte count, which is at least 2 if the list begins an ACK.
 abbrev pub HasGoodByteCount : List ℕ → Type 0
 HasGoodByteCount bytes = HasByteCount bytes × ((delimiter_in bytes % 8 ≡ 2) ⊎ (2 ≤ byte_count_in bytes))
 

@@ -7,7 +7,7 @@ use std::marker::Model;
 /// The bits that are not fault bits.
 const OTHER_BITS: u8 = !0x72;
 
-/// A received character: a byte, and the faults that the receiver noticed at it (HCF_SPEC-081).
+/// A received character: a byte, and the faults that the receiver noticed (HCF_SPEC-081).
 ///
 /// The fault bits are `0x40` for vertical parity, `0x20` for overrun, `0x10` for framing and `0x02` for buffer overflow. A character is
 /// faultless if none of these bits is set.
@@ -72,8 +72,9 @@ pub fn are_faultless(chars: &[Char]) -> bool
     chars.iter().all(|character| character.is_faultless())
 }
 
-/// Returns the bytes of the characters before the first character with faults, or of all characters if none has faults. Returns at most the
-/// first `N` of these bytes.
+/// Returns the bytes of the characters before the first character with faults, or of all characters if no character has faults. Returns at
+/// most the first `N` of these bytes.
+#[tactic(auto, using(std::proofs::lemmas::Grind::common_steps, crate::proofs::lemmas::heard::Front::longer_front))]
 pub(crate) fn faultless_front<const N: usize>(chars: &[Char]) -> ByteList<N>
     ensures { result ≡ take N (faultless_bytes chars.now) }
 {

@@ -1,4 +1,4 @@
-//! Laws about damage that can be detected. They follow from the definitions alone, and serve the crates that use this crate.
+//! Laws about damage that can be detected. They follow from the definitions alone, and are for the crates that use this crate.
 ghost use Rattle.std.specs.Prelude.{◌⊎◌, List, ℕ, [], ◌∷◌, length};
 ghost use Rattle.hart_frame.specs.heard.Character.{Character};
 ghost use Rattle.hart_frame.specs.heard.Damage.{IsCheckDamage, IsMarkedDamage};
@@ -19,7 +19,7 @@ pub fn damaged_messages_have_no_other_frame()
         → AreFrames chars 0 [] }
 {}
 
-/// Shows each kind of damage by example: characters that are a request with this kind of damage, and characters that are not.
+/// Shows each kind of damage by example: a list of characters that is a request with this damage, and a list that is not.
 pub fn damage_by_example()
     ensures marked { IsMarkedDamage identity_request 5 faulty_address }
     ensures not_marked { IsMarkedDamage identity_request 5 other_address → ⊥ }

@@ -28,16 +28,15 @@ use crate::{Body, Char};
 pub enum Miss {
     /// The character at `place` has the fault bits `faults`, and the bytes before this character end too early for a body.
     Faulty { place: usize, faults: u8 },
-    /// The first byte is the delimiter of a burst message. Burst messages are not read.
+    /// The first byte is the delimiter of a burst message. This crate does not decode burst messages.
     Burst,
-    /// The first byte is `byte`, which is neither a delimiter of this profile nor that of a burst message.
+    /// The first byte is `byte`, which is neither an STX or ACK delimiter nor the delimiter of a burst message.
     BadDelimiter { byte: u8 },
     /// The characters end before the byte count.
     EndsBeforeByteCount,
-    /// An ACK has this byte count, below 2.
+    /// An ACK has the byte count `byte_count`, which is below 2.
     ShortReply { byte_count: u8 },
-    /// The characters end before the end of the check byte. `count` characters are missing, and the last missing character is the check
-    /// byte.
+    /// The characters end before the check byte. `count` characters are missing, and the last of these is the check byte.
     Missing { count: usize },
     /// The check byte at this place is `byte`, but the byte that would fit is `fits`.
     BadCheck { place: usize, byte: u8, fits: u8 },
@@ -50,13 +49,13 @@ pub enum Miss {
 ///
 /// Where a body may start (see [`is_start`](crate::is_start)), the miss is the first of these that applies:
 ///
-/// - The first byte is the delimiter of a burst message, or another byte that is no delimiter of this profile.
+/// - The first byte is the delimiter of a burst message, or another byte that is no STX or ACK delimiter.
 /// - The characters end before the byte count.
 /// - An ACK has a byte count below 2.
-/// - The characters end before the end of the check byte.
+/// - The characters end before the check byte.
 /// - The check byte does not fit.
 ///
-/// If a character with fault bits comes too early to decide which of these applies, the miss is a [`Miss::Faulty`] for that character. A
+/// If a character with fault bits comes before it is clear which of these applies, the miss is a [`Miss::Faulty`] for that character. A
 /// whole body after a single faultless `FF` is a [`Miss::OnePreamble`].
 ///
 /// The function looks at no more than 267 characters from `start` on, the length of the longest body.
@@ -116,7 +115,7 @@ pub(crate) fn wrong_miss(wrong: Wrong, start: usize) -> Miss
     }
 }
 
-/// Returns why this first byte is no delimiter of this profile.
+/// Returns why this first byte is no STX or ACK delimiter.
 fn delimiter_miss(byte: u8) -> Miss
     ensures { result ≡ delimiter_miss byte }
 {
@@ -161,6 +160,7 @@ fn follows_one_preamble(chars: &[Char], place: usize) -> bool
 }
 
 /// Returns true if a faultless preamble byte `FF` stands right before this place.
+#[tactic(auto, using(std::proofs::lemmas::Bool::Decides::nat_tests, crate::proofs::lemmas::heard::InTheWay::character_at))]
 fn follows_preamble(chars: &[Char], place: usize) -> bool
     requires within { place ≤ length chars.now }
     ensures { result ≡ follows_preamble chars.now place }
@@ -184,11 +184,12 @@ pub fn every_start_has_a_frame_or_a_miss()
 
 /// A miss names what really stands in the way of a frame.
 ///
-/// `BadCheck`: if the byte that fits replaces the byte at the named place, a frame stands at the start and ends with that byte. `Faulty`:
-/// the character at the named place has the named fault bits. If a faultless character replaces this character, the miss no longer names
-/// the place as faulty. `Missing`: append any `count - 1` bytes, and then the check byte of all bytes from the start on. A frame then
-/// stands at the start and ends with that check byte. `OnePreamble`: if another faultless `FF` is inserted right after the single `FF`, a
-/// frame stands right after both `FF`.
+/// - `BadCheck`: if the byte that fits replaces the byte at the named place, a frame starts at `start` and ends with that byte.
+/// - `Faulty`: the character at the named place has the named fault bits. If a faultless character replaces this character, the miss no
+///   longer names the place as faulty.
+/// - `Missing`: append any `count - 1` bytes, and then the check byte of all bytes from `start` on. A frame then starts at `start` and ends
+///   with that check byte.
+/// - `OnePreamble`: if another faultless `FF` is inserted right after the single `FF`, a frame stands right after both `FF`.
 pub fn misses_say_what_is_wrong()
     ensures bad_check { (start place byte fits : ℕ) (chars : List Character) → All (λ character. character.byte < 256) chars
         → miss_of chars start ≡ Some (BadCheck place byte fits)
@@ -206,9 +207,9 @@ pub fn misses_say_what_is_wrong()
         → HasFrameAt (insert chars start (record { byte = 255; faults = 0 })) (start + 1) }
 {}
 
-/// The bytes of a place are the bytes from this place on, up to the end or to the first character with fault bits, which is left out. Where
-/// a body may start, the miss corresponds to the fault with which [`decode`](crate::decode) refuses the bytes of the place. So misses are
-/// found in the order of the faults of `decode`. If the bytes of a place begin with a body, a miss of this place corresponds to no fault.
+/// Where a body may start, the miss corresponds to the fault with which [`decode`](crate::decode) refuses the bytes from there up to the
+/// first character with fault bits, or up to the end. So `miss_of` and `decode` test their conditions in the same order. If the bytes from
+/// a place on begin with a body, a miss of that place corresponds to no fault.
 pub fn misses_are_faults()
     ensures refused { (start : ℕ) (chars : List Character) (miss : Miss) → All (λ character. character.byte < 256) chars
         → IsStart start chars → miss_of chars start ≡ Some miss
@@ -218,9 +219,9 @@ pub fn misses_are_faults()
         → BeginsWithBody (faultless_bytes (drop start chars)) frame len → fault_of miss ≡ None }
 {}
 
-/// `miss_of` goes step by step, and finds exactly the misses that `IsMiss` describes. A place has at most one miss. Where a body may start,
-/// the miss is exactly what stands in the way there. Anywhere else there is a miss only where a whole body stands after a single preamble
-/// byte.
+/// `miss_of` tests one condition after another, and finds exactly the misses that `IsMiss` describes. A place has at most one miss. Where a
+/// body may start, the misses are exactly those that `IsInTheWay` describes. At any other place there is a miss only if a whole body stands
+/// there after a single preamble byte.
 pub fn misses_are_in_the_way()
     ensures found { (start : ℕ) (chars : List Character) (miss : Miss) → All (λ character. character.byte < 256) chars
         → (miss_of chars start ≡ Some miss) ↔ IsMiss chars start miss }

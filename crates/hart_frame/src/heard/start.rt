@@ -6,8 +6,8 @@ ghost use Rattle.hart_frame.specs.heard.Start.{HasNoStart, IsFirstStart, IsStart
 use crate::Char;
 use crate::wire::message::PREAMBLE;
 
-/// Returns the first place where a body may start, or `None` if there is none. A body may start at a place if two faultless preamble bytes
-/// `FF` stand right before it and the character at it is not a faultless `FF`. What follows need not be an intact body.
+/// Returns the first place where a body may start, or `None` if there is no such place. A body may start at a place if two faultless
+/// preamble bytes `FF` stand right before it and the character at it is not a faultless `FF`. An intact body need not follow.
 pub fn first_start(chars: &[Char]) -> Option<usize>
     ensures { MatchOption result (HasNoStart chars.now) (λ place. IsFirstStart place chars.now) }
 {
@@ -19,8 +19,8 @@ pub fn first_start(chars: &[Char]) -> Option<usize>
     None
 }
 
-/// Returns true if a body may start at this place: two faultless preamble bytes `FF` stand right before it, and the character at it is not
-/// a faultless `FF`. What follows need not be an intact body.
+/// Returns true if a body may start at this place. Two faultless preamble bytes `FF` stand right before such a place, and the character at
+/// it is not a faultless `FF`. An intact body need not follow.
 pub fn is_start(chars: &[Char], place: usize) -> bool
     ensures { IsTrue result ↔ IsStart place chars.now }
 {

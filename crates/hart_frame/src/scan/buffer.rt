@@ -16,10 +16,10 @@ use hart_values::ByteList;
 /// The greatest number of characters that are held: two preamble bytes and a body.
 pub(crate) const MOST_HELD: usize = 269;
 
-/// The capacity of the list: twice [`MOST_HELD`], so that the held bytes seldom have to be moved to the start of the list.
+/// The capacity of a buffer's list of bytes: twice [`MOST_HELD`], so that the held bytes seldom have to be moved to the start of the list.
 pub(crate) const ROOM: usize = 538;
 
-/// The held characters: the faultless bytes of the list from `from` on, and after them at most one character with faults.
+/// The held characters: the bytes of the list `bytes` from index `from` on, without faults, and then at most one character with faults.
 #[derive(Drop)]
 pub(crate) struct Buffer {
     pub(crate) bytes: ByteList<ROOM>,
@@ -36,13 +36,13 @@ pub(crate) struct Buffer {
 pub(crate) enum State {
     /// The held characters decide no frame until another character or the end comes.
     Drained,
-    /// A character or the end came, or bytes were let go. What is held has not been searched since then.
+    /// A character or the end came, or bytes were dropped. What is held has not been searched since then.
     Busy,
     /// The held bytes begin with two preamble bytes and a body of this layout.
     Stands(Layout),
 }
 
-/// Where the body of a frame lies in the list, and where it stands in what is heard.
+/// Where the body of a frame lies in a buffer's list, and where it stands in what is heard.
 #[derive(Clone, Copy)]
 pub(crate) struct Span {
     pub(crate) at: usize,
@@ -128,7 +128,7 @@ impl Buffer {
         self.finished || self.damaged.is_some()
     }
 
-    /// Lets go of the first `count` bytes that are held.
+    /// Drops the first `count` bytes that are held.
     pub(crate) fn pass(&mut self, count: usize)
         requires sound { IsSound self.old }
         requires within { count ≤ length (held_bytes self.old) }
@@ -140,7 +140,7 @@ impl Buffer {
         self.state = State::Busy;
     }
 
-    /// Lets go of two preamble bytes and the body after them, and returns where that body lies.
+    /// Drops two preamble bytes and the body after them from what is held, and returns where that body lies in the list.
     pub(crate) fn release(&mut self, layout: Layout) -> Span
         requires sound { IsSound self.old }
         requires within { 2 + layout_length layout ≤ length (held_bytes self.old) }
@@ -186,7 +186,8 @@ impl Buffer {
         }
     }
 
-    /// Joins the held bytes and the chunk. Holds only the joined bytes from `place` up to `stop`, and lets go of the bytes before `place`.
+    /// Joins the held bytes and the chunk, and then holds only the joined bytes from `place` up to `stop`.
+    #[tactic(auto, using(crate::proofs::lemmas::scan::Buffer::kept_after, crate::proofs::lemmas::scan::Buffer::kept_past))]
     pub(crate) fn keep(&mut self, chunk: &[u8], place: usize, stop: usize)
         requires stored { IsStored self.old }
         requires clear { self.old.damaged ≡ None }
@@ -215,7 +216,7 @@ impl Buffer {
         }
     }
 
-    /// Lets go of all bytes of the list, and clears the list if 269 more bytes do not fit after them.
+    /// Drops all held bytes, and clears the list if 269 more bytes do not fit at its end.
     fn pass_all(&mut self)
         ensures room { length self.new.bytes + 269 ≤ 538 }
         ensures same { self.new ≡ record self.old { bytes = self.new.bytes; from = length self.new.bytes } }
@@ -226,7 +227,7 @@ impl Buffer {
         self.from = self.bytes.len();
     }
 
-    /// Moves what is held to the start of the list if 269 more bytes do not fit at its end.
+    /// Moves what is held to the start of the list if 269 more bytes do not fit at the end of the list.
     #[inline(never)]
     fn make_room(&mut self)
         requires within { self.old.from ≤ length self.old.bytes }
@@ -243,7 +244,8 @@ impl Buffer {
         self.from = 0;
     }
 
-    /// Lets go of the character with faults, if one is held.
+    /// Drops the character with faults, if one is held.
+    #[tactic(auto, using(std::proofs::lemmas::Grind::common_steps, crate::proofs::lemmas::scan::Scan::moves_past))]
     fn drop_damaged(&mut self)
         requires sound { IsSound self.old }
         requires empty { held_bytes self.old ≡ [] }
@@ -259,7 +261,7 @@ impl Buffer {
         self.first += 1;
     }
 
-    /// Lets go of the character with faults, if one is held. No byte may be held. A finished scanner is new afterwards.
+    /// Drops the character with faults, if one is held. The buffer must hold no bytes. A finished scanner is new afterwards.
     pub(crate) fn end(&mut self)
         requires sound { IsSound self.old }
         requires empty { held_bytes self.old ≡ [] }

@@ -1,4 +1,4 @@
-//! How the bytes that a scanner looks at begin.
+//! How bytes begin: with a frame, with what may become a frame, or with neither.
 ghost use Rattle.std.specs.Prelude.{◌≡◌, ◌≤◌, ◌+◌, drop, length, slice_index};
 ghost use Rattle.hart_frame.specs.private.Candidate.{IsCandidate, IsShort, IsShortPrefix, candidate_of};
 ghost use Rattle.hart_frame.specs.private.Sums.{AreSums};
@@ -14,11 +14,11 @@ pub(crate) enum Candidate {
     Never(usize),
     /// The bytes may still become a frame.
     Open,
-    /// The bytes begin with a frame, by this layout.
+    /// The bytes begin with a frame of this layout.
     Whole(Layout),
 }
 
-/// Returns how the bytes begin. The first two of them are preamble bytes.
+/// Returns how the bytes begin. The first two bytes must be preamble bytes.
 pub(crate) fn candidate_in(bytes: &[u8]) -> Candidate
     requires some { 2 ≤ length bytes.now }
     requires first { slice_index bytes.now 0 ≡ 255 }
@@ -29,7 +29,7 @@ pub(crate) fn candidate_in(bytes: &[u8]) -> Candidate
     candidate_of(prefix_of(&bytes[2..]))
 }
 
-/// Returns what [`candidate_in`] returns for the bytes from `start` on. The check byte comes from sums.
+/// Returns what [`candidate_in`] returns for the bytes from `start` on, but takes the check byte from `sums`.
 #[inline(always)]
 pub(crate) fn candidate_at(bytes: &[u8], start: usize, sums: &mut Sums) -> Candidate
     requires some { start + 2 ≤ length bytes.now }
@@ -45,7 +45,7 @@ pub(crate) fn candidate_at(bytes: &[u8], start: usize, sums: &mut Sums) -> Candi
     candidate_of(prefix_at(bytes, start + 2, sums))
 }
 
-/// Returns how two preamble bytes and bytes after them begin, if those after them begin as `prefix` says.
+/// Returns how bytes begin if they are two preamble bytes and a rest. `prefix` says how this rest begins.
 #[inline(always)]
 fn candidate_of(prefix: Prefix) -> Candidate
     requires { IsShortPrefix prefix }

@@ -13,14 +13,14 @@ use crate::scan::search::{SearchResult, search};
 use crate::wire::layout::Layout;
 use hart_values::ByteList;
 
-/// The greatest number of faultless characters that are searched together. Their bytes are copied first, because only bytes are searched:
-/// a second search over characters would repeat the code. Because of this limit, a frame at the front does not cost a copy of many
-/// characters after it.
+/// The greatest number of faultless characters that are searched together. The search takes bytes, so the bytes of the characters are
+/// copied first: a second search, over characters, would repeat the code. Because of this limit, a frame at the front does not cost a copy
+/// of many characters after it.
 const STRETCH: usize = 64;
 
 impl Buffer {
     /// Hears the bytes of a chunk up to the first byte at which a frame is decided, or all bytes if no frame is decided. Returns how many
-    /// it heard.
+    /// bytes it heard.
     pub(crate) fn push_bytes(&mut self, chunk: &[u8]) -> usize
         requires sound { IsSound self.old }
         requires drained { self.old.state ≡ Drained }
@@ -38,8 +38,8 @@ impl Buffer {
         taken
     }
 
-    /// Hears at least one byte at the front of a chunk, and none after the first byte that decides a frame. Returns how many bytes it
-    /// heard. If no byte is held, the chunk is searched without a copy.
+    /// Hears at least one byte at the front of a chunk, and no byte after the first that decides a frame. Returns how many bytes it heard.
+    /// If no byte is held, the chunk is searched without a copy.
     fn push_part(&mut self, chunk: &[u8]) -> usize
         requires sound { IsSound self.old }
         requires drained { self.old.state ≡ Drained }
@@ -55,7 +55,7 @@ impl Buffer {
         self.settle(part, self.search_joined(part))
     }
 
-    /// Returns what is found in the held bytes followed by `part`.
+    /// Searches the held bytes followed by `part`. Returns what is found.
     fn search_joined(&self, part: &[u8]) -> SearchResult
         requires sound { IsSound self.now }
         requires drained { self.now.state ≡ Drained }
@@ -70,7 +70,7 @@ impl Buffer {
         search(joined.as_slice(), 0, held.len() + 1)
     }
 
-    /// Takes the result `found` of a search of the held bytes followed by `part`. Hears the bytes of `part` up to the last byte that the
+    /// Takes the result `found` of a search in the held bytes followed by `part`. Hears the bytes of `part` up to the last byte that the
     /// search needed. Returns how many bytes it heard.
     #[inline(always)]
     fn settle(&mut self, part: &[u8], found: SearchResult) -> usize
@@ -89,7 +89,7 @@ impl Buffer {
     }
 
     /// Hears the characters of a chunk up to the first character at which a frame is decided, or all characters if no frame is decided.
-    /// Returns how many it heard.
+    /// Returns how many characters it heard.
     pub(crate) fn push_chars(&mut self, chunk: &[Char]) -> usize
         requires sound { IsSound self.old }
         requires drained { self.old.state ≡ Drained }
@@ -107,7 +107,7 @@ impl Buffer {
         taken
     }
 
-    /// Hears either faultless characters at the front of a chunk or one character with faults. Returns how many it heard.
+    /// Hears either faultless characters at the front of a chunk or one character with faults. Returns how many characters it heard.
     fn push_stretch(&mut self, chunk: &[Char]) -> usize
         requires sound { IsSound self.old }
         requires drained { self.old.state ≡ Drained }

@@ -10,8 +10,9 @@ use crate::scan::search::{SearchResult, search_to_end};
 use crate::wire::layout::Layout;
 
 impl Buffer {
-    /// Returns where the body of the next frame lies, and lets go of the frame's characters. Returns `None` if no frame is decided yet, or
-    /// if no frame is left after the finish.
+    /// Returns where the body of the next frame lies, and drops the frame's characters from what is held. Returns `None` if no frame is
+    /// decided yet, or if the buffer is finished and no frame is left.
+    #[tactic(auto, using(crate::proofs::lemmas::scan::Decision::gives_span))]
     pub(crate) fn next(&mut self) -> Option<Span>
         requires sound { IsSound self.old }
         ensures sound { IsSound self.new }
@@ -22,7 +23,8 @@ impl Buffer {
     }
 
     /// Returns the layout of the next frame, which then stands at the front of the held bytes. Returns `None` if no frame is decided yet,
-    /// or if no frame is left after the finish.
+    /// or if the buffer is finished and no frame is left.
+    #[tactic(auto, using(std::proofs::lemmas::Grind::common_steps, crate::proofs::lemmas::scan::Buffer::peeking))]
     pub(crate) fn peek(&mut self) -> Option<Layout>
         requires sound { IsSound self.old }
         ensures sound { IsSound self.new }
@@ -74,6 +76,7 @@ impl Buffer {
 
     /// Searches the held bytes for a frame. If no byte can follow the held bytes, the search skips each place at which a frame could begin
     /// only with more bytes.
+    #[tactic(auto, using(crate::proofs::lemmas::scan::Decision::held_searched))]
     fn search_held(&self) -> SearchResult
         requires sound { IsSound self.now }
         ensures { IsHeldSearched self.now result }

@@ -1,4 +1,4 @@
-//! The first frame of what was heard. The code of the scanner finds it, so that the same code finds all frames.
+//! The first frame of what was heard. It is found with the code of the scanner, so that all frames are found by the same code.
 ghost use Rattle.std.specs.Prelude.{◌≡◌, ◌+◌, ◌<◌, ◌≤◌, List, false, length, IsTrue, MatchOption, IfSome};
 ghost use Rattle.hart_frame.specs.heard.Delivery.{IsLone, lone_of};
 ghost use Rattle.hart_frame.specs.heard.Frames.{AreFrames, HasNoFrame, IsFirst};
@@ -52,7 +52,8 @@ pub fn first_frame(chars: &[Char], from: usize) -> Option<Found>
     })
 }
 
-/// Pushes a list to a new scanner until its first frame is decided. Returns a copy of that frame, or `None` if the list has no frame.
+/// Pushes a list to a new scanner until the first frame of the list is decided. Returns a copy of that frame, or `None` if the list has no
+/// frame.
 fn first_found(scanner: &mut Scanner, chars: &[Char]) -> Option<Found>
     requires { scanner.old ≡ new_scan }
     ensures { MatchOption result (HasNoFrame chars.now 0) (λ found. IsFirstIn found chars.now) }
@@ -77,8 +78,8 @@ fn next_found(scanner: &mut Scanner) -> Option<Found>
     })
 }
 
-/// Returns whether a delivery has no frame, one frame or several frames. If it has exactly one, returns a copy of that frame. The frame is
-/// copied only once it is known to be the only one, which takes fewer instructions than two calls of [`first_frame`].
+/// Returns whether a delivery has no frame, one frame or several frames. If it has exactly one frame, returns a copy of this frame. The
+/// frame is copied only after it is known to be the only frame. This takes fewer instructions than two calls of [`first_frame`].
 pub fn lone_frame(delivery: &[Char]) -> LoneFrame
     ensures lone { IsLone delivery.now result }
     ensures only { (frames : List Found) → AreFrames delivery.now 0 frames → result ≡ lone_of frames }
@@ -102,8 +103,8 @@ fn has_frame(chars: &[Char]) -> bool
     first_span(&mut buffer, chars).is_some()
 }
 
-/// Pushes a list to a new buffer until its first frame is decided. Returns where the body of that frame lies in the buffer, or `None` if
-/// the list has no frame.
+/// Pushes a list to a new buffer until the first frame of the list is decided. Returns where the body of that frame lies in the buffer, or
+/// `None` if the list has no frame.
 fn first_span(buffer: &mut Buffer, chars: &[Char]) -> Option<Span>
     requires sound { IsSound buffer.old }
     requires is_new { scan_of buffer.old ≡ new_scan }

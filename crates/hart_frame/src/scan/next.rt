@@ -1,4 +1,4 @@
-//! The next frame in bytes in memory. The caller passes the state of the search, so nothing is kept.
+//! The next frame in bytes in memory. The caller passes the state of the search, so no state is kept between calls.
 ghost use Rattle.std.specs.Prelude.{None, ◌≡◌, ◌<◌, ◌≤◌, ◌+◌, ◌++◌, ◌∷◌, [], Bool, List, ℕ, false, true, IsTrue, IfSome, drop, length, map};
 ghost use Rattle.hart_frame.specs.heard.Character.{Character, faultless};
 ghost use Rattle.hart_frame.specs.heard.Frames.{AreFrames, IsUndecided, moved};
@@ -62,12 +62,12 @@ pub fn next_in_bytes(bytes: &[u8], from: usize, ended: bool) -> NextInBytes<'_>
     }
 }
 
-/// Frames that are found one after another are the next frames of the list. They are the next frames whether more characters follow or not.
-/// Each frame uses up some characters.
+/// Frames that calls find one after another are the next frames of the list, whether more characters follow or not. Each frame uses up some
+/// characters.
 ///
-/// A caller may keep only the characters that are not used up. All frames that are left stand in these characters followed by what comes
-/// later. The next frames of these characters, with places counted in the whole list, are the next frames of the whole list. Once all
-/// characters are used up, all frames of the list are found.
+/// A caller may keep only the characters that are not used up. Every frame that is still to be found stands in these characters and in
+/// those that come later. The next frames of these characters, with places counted in the whole list, are the next frames of the whole
+/// list. Once all characters are used up, all frames of the list are found.
 pub fn next_frames_are_all()
     ensures nothing { (chars : List Character) (ended : Bool) (place : ℕ) → place ≤ length chars → AreNext chars ended place [] place }
     ensures some { (chars : List Character) (ended : Bool) (from to : ℕ) (found : Found) (more : List Found)

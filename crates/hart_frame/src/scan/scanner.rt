@@ -51,8 +51,8 @@ impl Scanner {
         }
     }
 
-    /// Hears one more character. The scanner must be drained, and must have heard fewer than 2^64 - 1 characters so far. Afterwards it
-    /// holds at most 269 characters.
+    /// Hears one more character. The scanner must be drained (see [`Scanner::is_drained`]), and must have heard fewer than 2^64 - 1
+    /// characters so far. Afterwards it holds at most 269 characters.
     pub fn push(&mut self, character: Char)
         requires drained { IsTrue self.old.drained }
         requires room { self.old.first + length self.old.held < 2 ^ 64 - 1 }
@@ -62,12 +62,12 @@ impl Scanner {
         self.buffer.push(character);
     }
 
-    /// Hears the bytes of a chunk, as characters without faults, up to the first byte that decides a frame, or all bytes if none does.
-    /// Returns how many bytes it heard. If a frame is decided, [`Scanner::take`] returns it. The scanner must be drained, and the
-    /// characters pushed so far and the chunk must together be fewer than 2^64.
+    /// Hears the bytes of a chunk, as characters without faults, up to the first byte that decides a frame, or all bytes if no byte decides
+    /// a frame. Returns how many bytes it heard. If a frame is decided, [`Scanner::take`] returns it. The scanner must be drained, and the
+    /// characters pushed so far and those of the chunk must together be fewer than 2^64.
     ///
     /// The effect is the same as calling [`Scanner::push`] for each of these bytes, with [`Scanner::take`] returning `None` after each byte
-    /// except the last. An empty scanner searches the bytes in place, and copies only the bytes that it then holds.
+    /// except the last. An empty scanner searches the bytes in place, and copies only the bytes that it still holds afterwards.
     pub fn push_bytes(&mut self, chunk: &[u8]) -> usize
         requires drained { IsTrue self.old.drained }
         requires room { self.old.first + length self.old.held + length chunk.now < 2 ^ 64 }
@@ -100,8 +100,8 @@ impl Scanner {
         self.buffer.push_chars(chunk)
     }
 
-    /// Returns the next frame, or `None` if no frame is decided yet. After the finish, `None` means that no frame is left. The scanner is
-    /// then new, and its places begin at 0 again.
+    /// Returns the next frame, or `None` if no frame is decided yet. After [`Scanner::finish`], `None` means that no frame is left. The
+    /// scanner is then new, and its places begin at 0 again.
     pub fn take(&mut self) -> Option<FoundView<'_>>
         // The view borrows the scanner. So this clause is about `after`, the scanner once the view is dropped: GivesNextOrNothing self.old
         // after result.
@@ -112,8 +112,8 @@ impl Scanner {
         Some(self.buffer.found(span))
     }
 
-    /// Returns true if the scanner is drained: it has no frame to give before it hears the next character or the finish. A drained scanner
-    /// holds at most 268 characters.
+    /// Returns true if the scanner is drained: it has no frame to give before the next character or the call of [`Scanner::finish`]. A
+    /// drained scanner holds at most 268 characters.
     pub fn is_drained(&self) -> bool
         ensures drained { result ≡ self.now.drained }
         ensures waiting { IsTrue self.now.drained → (self.now.finished ≡ false) × IsUndecided self.now.held }
@@ -130,8 +130,8 @@ impl Scanner {
         self.buffer.finish();
     }
 
-    /// Returns the place of the first character that is held, or of the next character to come if none is held. At most 269 characters are
-    /// held, and no later frame begins before that place.
+    /// Returns the place of the first character that is held. If no character is held, returns the place of the next character to come. At
+    /// most 269 characters are held, and no later frame begins before that place.
     pub fn first_held(&self) -> u64
         ensures first { result ≡ self.now.first }
         ensures few { length self.now.held ≤ 269 }

@@ -13,7 +13,7 @@ use crate::wire::sums::Sums;
 use memchr::memchr;
 use std::simd::prelude::*;
 
-/// The number of places that are looked at together for a pair.
+/// The number of places that are searched for a pair at once.
 const LANES: usize = 16;
 
 /// The number of bytes that are needed to look for a pair at [`LANES`] places. A pair has 3 bytes.
@@ -26,8 +26,8 @@ pub(crate) struct SearchResult {
     pub(crate) place: usize,
     /// How many bytes at the front the search needed for its result.
     pub(crate) decided: usize,
-    /// The layout of the frame that begins at `place`, or `None` if no frame is found. If more bytes can follow, the bytes from `place`
-    /// on may then still begin a frame.
+    /// The layout of the frame that begins at `place`, or `None` if no frame is found. If no frame is found and more bytes can follow, the
+    /// bytes from `place` on may still begin a frame.
     pub(crate) layout: Option<Layout>,
 }
 
@@ -51,10 +51,10 @@ pub(crate) fn search(bytes: &[u8], from: usize, seen: usize) -> SearchResult
     }
 }
 
-/// Goes on at `from` with a search that began at `first`, and has looked at the first `seen` bytes. The caller of that search already knew
-/// that no prefix of fewer than `known` bytes decides a frame. After a false start it looks at the next place, not behind the length that
-/// the false start gives, because a whole message may stand there. So bodies that may begin often overlap, and their check bytes come from
-/// sums.
+/// Continues, from the place `from`, a search that began at `first` and has looked at the first `seen` bytes. The caller of that search
+/// already knew that no prefix of fewer than `known` bytes decides a frame. After a false start, the search goes on at the next place,
+/// because a whole message may begin within the length that the false start gives. So possible bodies often overlap, and their check bytes
+/// come from sums.
 #[inline(never)]
 fn search_on(bytes: &[u8], first: usize, known: usize, from: usize, seen: usize) -> SearchResult
     requires { IsSearching bytes.now first known from seen }
@@ -76,8 +76,9 @@ fn search_on(bytes: &[u8], first: usize, known: usize, from: usize, seen: usize)
     open_at(bytes, bytes.len() - last_preambles(&bytes[place..]))
 }
 
-/// Returns how many bytes at the front a search has looked at once `count` bytes from the pair at `start` on show that no frame begins
-/// there. Before, the search had looked at the first `decided` bytes and came from `place` to that pair. It goes on right after `start`.
+/// Returns how many bytes at the front a search has looked at in all. When the search came to `place`, it had looked at the first `decided`
+/// bytes. It then looked at `count` bytes from `start` on, which show that no frame begins at the pair at `start`. The search goes on right
+/// after `start`.
 #[inline(always)]
 fn looked_at(
     bytes: &[u8],
@@ -121,7 +122,7 @@ fn open_at(bytes: &[u8], place: usize) -> SearchResult
     }
 }
 
-/// Returns the result of a search that finds a frame of this layout at `place`. The search looked at the first `seen` bytes before.
+/// Returns the result of a search that finds a frame of this layout at `place`. The search had already looked at the first `seen` bytes.
 #[inline(always)]
 fn whole_at(place: usize, seen: usize, layout: Layout) -> SearchResult
     requires { place + 2 + layout_length layout < 2 ^ 64 }
@@ -138,8 +139,8 @@ fn whole_at(place: usize, seen: usize, layout: Layout) -> SearchResult
     }
 }
 
-/// Returns the first place from `from` on at which a pair stands, or `None` if no pair stands there. A pair is two preamble bytes and then
-/// a byte that is no preamble byte. In noise pairs are rare, and single preamble bytes are frequent.
+/// Returns the first place from `from` on at which a pair stands, or `None` if there is no such place. A pair is two preamble bytes and
+/// then a byte that is no preamble byte. In noise, pairs are rare, and single preamble bytes are frequent.
 #[inline(always)]
 fn next_pair(bytes: &[u8], from: usize) -> Option<usize>
     requires { from ≤ length bytes.now }
@@ -153,13 +154,13 @@ fn next_pair(bytes: &[u8], from: usize) -> Option<usize>
         place = next_preamble(bytes, place + LANES);
     }
     if from + LOOKED_AT <= bytes.len() {
-        // Some of these places were looked at before.
+        // This call looks again at some places that were already looked at.
         return first_pair(bytes, bytes.len() - LOOKED_AT);
     }
     pair_near_end(bytes, from)
 }
 
-/// Looks at the [`LANES`] places from `place` on. Returns the first of them at which a pair stands, or `None` if there is none.
+/// Looks at the [`LANES`] places from `place` on. Returns the first of these places at which a pair stands, or `None` if there is none.
 #[inline(always)]
 fn first_pair(bytes: &[u8], place: usize) -> Option<usize>
     requires { place + LOOKED_AT ≤ length bytes.now }
@@ -176,7 +177,8 @@ fn first_pair(bytes: &[u8], place: usize) -> Option<usize>
     Some(place + pairs.trailing_zeros() as usize)
 }
 
-/// Finds the same pair as [`next_pair`], but looks at one place after another. It serves for fewer bytes than [`first_pair`] needs.
+/// Returns the pair that [`next_pair`] returns, but looks at one place after another. This function is for fewer bytes than [`first_pair`]
+/// needs.
 fn pair_near_end(bytes: &[u8], from: usize) -> Option<usize>
     requires { from ≤ length bytes.now }
     ensures { MatchOption result (HasNoPair bytes.now from (length bytes.now)) (IsNextPair bytes.now from) }

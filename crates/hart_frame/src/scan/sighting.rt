@@ -27,7 +27,7 @@ use crate::{Char, FoundView, FrameView, Header, Miss};
 /// What comes after bytes that were heard without faults.
 #[derive(Clone, Copy, Debug, PartialEq, Eq)]
 pub enum After {
-    /// More characters may come, which are not heard yet.
+    /// More characters may come.
     More,
     /// This character comes next, and has fault bits.
     Damaged(Char),
@@ -41,7 +41,7 @@ pub enum Sighting<'a> {
     /// A message. Its frame is borrowed from the bytes in which it was found.
     Message(FoundView<'a>),
     /// Why no frame stands at this place. `header` is the header at the front of the faultless bytes from this place on. It is `None` if
-    /// these bytes do not begin with a delimiter of this profile, or if they end before the command.
+    /// these bytes do not begin with an STX or ACK delimiter, or if they end before the command.
     Missed {
         place: usize,
         miss: Miss,
@@ -58,15 +58,15 @@ pub struct NextSighting<'a> {
     pub used: usize,
 }
 
-/// Returns the next message or miss of bytes that were heard without faults and of what comes after them.
+/// Returns the next message or miss in bytes that were heard without faults and in what comes after them.
 ///
 /// The preamble bytes before the message, or before the place of the miss, stand at or after `from`. Sightings come in the order of their
-/// places. A whole body after a single `FF` is a miss only if no two `FF` in a row begin within it. All places, also the places in a miss,
-/// are counted from the first of `bytes`.
+/// places. A whole body after a single `FF` is a miss only if no two `FF` in a row begin within that body. All places, also the places in a
+/// miss, are counted from the first of `bytes`.
 ///
-/// Continue from [`NextSighting::used`] to get the sighting after this one. If there is no sighting and `after` is [`After::More`], at most
-/// 268 bytes are left, and these bytes decide no sighting. If there is no sighting and `after` is another value, all bytes are used up. The
-/// character of [`After::Damaged`] is then used up too.
+/// Continue from [`NextSighting::used`] to get the next sighting. If there is no sighting and `after` is [`After::More`], at most 268 bytes
+/// are left, and these bytes decide no sighting. If there is no sighting and `after` is another value, all bytes are used up. The character
+/// of [`After::Damaged`] is then used up too.
 pub fn next_sighting(bytes: &[u8], after: After, from: usize) -> NextSighting<'_>
     requires within { from ≤ length (heard_with bytes.now after) }
     requires valid { AfterIsValid after }
@@ -95,7 +95,7 @@ pub fn next_sighting(bytes: &[u8], after: After, from: usize) -> NextSighting<'_
     none_decided(passed(bytes, &after, from))
 }
 
-/// Returns no sighting, and the place up to which all characters are used.
+/// Returns no sighting. All characters before the place `used` are used up.
 fn none_decided<'a>(used: usize) -> NextSighting<'a>
     ensures { result ≡ record { sighting = None; used = used } }
 {
@@ -148,7 +148,7 @@ fn message_at(bytes: &[u8], start: usize, layout: Layout) -> NextSighting<'_>
 pub(crate) enum Standing {
     /// No sighting.
     Nothing,
-    /// What stands there is not decided yet. All characters before the place in this field are used.
+    /// What stands there is not decided yet. All characters before the place in this field are used up.
     Open(usize),
     /// A message, whose body has this layout.
     Message(Layout),
@@ -168,7 +168,7 @@ fn standing_at(bytes: &[u8], after: &After, from: usize, start: usize) -> Standi
     after_one(bytes, after, start)
 }
 
-/// Returns what stands at `start` if two preamble bytes stand right before it.
+/// Returns what stands at `start`, which is right after two preamble bytes.
 fn after_two(bytes: &[u8], after: &After, start: usize) -> Standing
     requires two { 2 ≤ start }
     requires within { start ≤ length bytes.now }
@@ -189,8 +189,9 @@ fn after_two(bytes: &[u8], after: &After, start: usize) -> Standing
     }
 }
 
-/// Returns what stands at `start` if exactly one preamble byte stands right before it. A whole body at `start` is a miss, unless
-/// two preamble bytes in a row begin within that body: then up to 535 characters would be held until a later message decides.
+/// Returns what stands at `start`, which is right after exactly one preamble byte. A whole body at `start` is a miss, unless two preamble
+/// bytes in a row begin within that body. Without this exception, up to 535 characters would be held until it is decided whether a message
+/// begins there.
 fn after_one(bytes: &[u8], after: &After, start: usize) -> Standing
     requires one { 1 ≤ start }
     requires within { start ≤ length bytes.now }
@@ -211,7 +212,7 @@ fn after_one(bytes: &[u8], after: &After, start: usize) -> Standing
     }
 }
 
-/// Returns what stands at `start` if a single preamble byte stands right before it, and a whole body from `start` up to `stop`.
+/// Returns what stands at `start`. A single preamble byte stands right before `start`, and a whole body stands from `start` up to `stop`.
 fn lone_body(bytes: &[u8], after: &After, start: usize, stop: usize) -> Standing
     requires one { 1 ≤ start }
     requires order { start < stop }
@@ -233,7 +234,7 @@ fn lone_body(bytes: &[u8], after: &After, start: usize, stop: usize) -> Standing
 }
 
 /// Returns true if more bytes can make these bytes a body in which no two preamble bytes in a row begin. `missing` is the number of bytes
-/// that the body still lacks, or `None` if the bytes end before the byte count.
+/// that are missing for a body, or `None` if the bytes end before the byte count.
 fn can_stand_alone(bytes: &[u8], missing: Option<usize>) -> bool
     requires { IsPrefix bytes.now (Cut missing) }
     ensures may { IsTrue result → MayStandAlone bytes.now 0 }
@@ -242,7 +243,7 @@ fn can_stand_alone(bytes: &[u8], missing: Option<usize>) -> bool
     !has_two_preambles(bytes) && !lacks_one_preamble(bytes, missing)
 }
 
-/// Returns true if the bytes end in a preamble byte, lack only their check byte, and the check byte that fits is `FF` too.
+/// Returns true if the bytes end in a preamble byte and lack only their check byte, and if the check byte that fits is `FF` too.
 fn lacks_one_preamble(bytes: &[u8], missing: Option<usize>) -> bool
     requires { IsPrefix bytes.now (Cut missing) }
     ensures { IsTrue result ↔ LacksOnePreamble bytes.now }
@@ -254,6 +255,7 @@ fn lacks_one_preamble(bytes: &[u8], missing: Option<usize>) -> bool
 }
 
 /// Returns true if two preamble bytes stand in a row.
+#[tactic(auto, using(std::proofs::lemmas::Bool::Decides::nat_tests, crate::proofs::lemmas::scan::Alone::two_preambles))]
 fn has_two_preambles(bytes: &[u8]) -> bool
     ensures { result ≡ has_two_preambles bytes.now }
 {
@@ -268,8 +270,8 @@ fn has_two_preambles(bytes: &[u8]) -> bool
     false
 }
 
-/// Returns the place up to which bytes without a sighting and without an open place are used. For [`After::Damaged`], the character with
-/// fault bits is used too. For [`After::More`], the preamble bytes at the end, at most two, are not used.
+/// Returns the place up to which bytes are used up if they have no sighting and no open place. For [`After::Damaged`], the character with
+/// fault bits is used up too. For [`After::More`], the preamble bytes at the end, at most two, are not used up.
 fn passed(bytes: &[u8], after: &After, from: usize) -> usize
     requires within { from ≤ length bytes.now }
     requires places { length bytes.now < 2 ^ 64 - 1 }
@@ -291,8 +293,8 @@ fn passed(bytes: &[u8], after: &After, from: usize) -> usize
     }
 }
 
-/// Finds the next place after `from` where a sighting may stand, or `None` if there is none. A preamble byte stands right before such a
-/// place, and a character that is no preamble byte stands at it.
+/// Finds the next place after `from` where a sighting may stand, or `None` if there is no such place. A preamble byte stands right before
+/// such a place, and a character that is no preamble byte stands at it.
 fn next_asked(bytes: &[u8], after: &After, from: usize) -> Option<usize>
     requires within { from ≤ length bytes.now }
     ensures { IsNextAsked bytes.now after.now from result }
@@ -308,6 +310,7 @@ fn next_asked(bytes: &[u8], after: &After, from: usize) -> Option<usize>
 
 /// The rest of a list, after its first `place` characters, has exactly the list's sightings from `place` on. Each of these sightings stands
 /// `place` places later in the list than in the rest. So a caller that keeps only the rest misses no later sighting.
+#[tactic(auto, using(crate::proofs::lemmas::scan::SightingLaws::rest))]
 pub fn the_rest_has_the_later_sightings()
     ensures { (place : ℕ) (chars : List Character) (seen : List Seen)
         → AreSightings (drop place chars) 0 seen → AreSightings chars place (map (moved_seen place) seen) }
@@ -320,8 +323,8 @@ pub fn sightings_are_unambiguous()
     ensures some { (chars : List Character) (from : ℕ) → (seen : List Seen) × AreSightings chars from seen }
 {}
 
-/// Sightings that are found one after another are the next sightings of the list. They stay the next sightings if more characters follow.
-/// All sightings that are left stand in the characters that are not used up, followed by what comes later. Once all characters are used,
+/// Sightings that calls find one after another are the next sightings of the list, whether more characters follow or not. Every sighting
+/// that is still to be found stands in the characters that are not used up and in those that come later. Once all characters are used up,
 /// all sightings of the list are found.
 pub fn next_sightings_are_all()
     ensures onward { (chars : List Character) (ended : Bool) (from to after : ℕ) (given found : List Seen)

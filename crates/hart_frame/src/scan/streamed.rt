@@ -1,4 +1,4 @@
-//! What follows from the scanner's contracts for a caller that keeps the characters that it pushed and the frames that it was given.
+//! Laws for a caller that keeps the characters that it pushed to a scanner and the frames that it was given.
 ghost use Rattle.std.specs.Prelude.{◌≡◌, ◌+◌, ◌<◌, ◌≤◌, ◌++◌, [], List, IsTrue, false, length, drop, map};
 ghost use Rattle.hart_frame.specs.heard.Character.{Character};
 ghost use Rattle.hart_frame.specs.heard.Frames.{AreFrames, moved};
@@ -8,8 +8,8 @@ ghost use Rattle.hart_frame.specs.scan.Scanner.{Gives, GivesNothing, MovesPast, 
 ghost use Rattle.hart_frame.specs.scan.Streamed.{IsHistory, IsWholeHistory};
 ghost use Rattle.hart_frame.specs.declared.heard.found.Found.{Found};
 
-/// The frames that a scanner gave are the next frames in all that was pushed, up to the first character that the scanner holds. So these
-/// frames come first in all that is pushed, whatever is still to come. Once the scanner has ended, it has given all frames.
+/// The frames that a scanner gave are the frames in all that was pushed, from the start up to the first character that the scanner holds.
+/// So these frames come first in all that is pushed, whatever is still to come. Once the scanner has ended, it has given all frames.
 pub fn frames_are_streamed()
     ensures next { (past : List Character) (scan : Scan) (given : List Found) → IsHistory past scan given
         → AreNext past scan.finished 0 given scan.first }
@@ -21,8 +21,8 @@ pub fn frames_are_streamed()
 {}
 
 /// A scanner that moves past some frames and then past other frames moves past all these frames. What the scanner hears later does not
-/// change which frames it moved past. These frames are the next ones in all that was heard, whatever the scanner let go before and whatever
-/// comes later.
+/// change which frames it moved past. These frames are the next frames in all that was heard, whatever the scanner dropped before and
+/// whatever comes later.
 pub fn scanners_move_past_the_next_frames()
     ensures onward { (old mid new : Scan) (given found : List Found) → MovesPast old mid given → MovesPast mid new found
         → MovesPast old new (given ++ found) }
@@ -39,15 +39,16 @@ pub fn any_chunking_gives_the_same_frames()
         → given ≡ other }
 {}
 
-/// A scanner whose characters begin with a frame gives a frame. After each frame that it gives, it holds fewer characters.
+/// A scanner gives a frame if the characters that it holds begin with a frame. After each frame that it gives, it holds fewer characters.
 pub fn held_frames_are_given()
     ensures next { (old new : Scan) → BeginsWithFrame old → GivesNothing old new → ⊥ }
     ensures onward { (old new : Scan) (found : Found) → Gives old new found → length new.held < length old.held }
 {}
 
-/// A scanner holds what was pushed from its first held place on. The first frames of all that is pushed are the frames that the scanner
-/// gave. The later frames are those of the held characters together with whatever is still to come. All places are counted in all that is
-/// pushed. So a caller that keeps only what is held, at most 269 characters, has all frames that are left.
+/// A scanner holds all characters that were pushed from the place of its first held character on. The first frames of all that is pushed
+/// are the frames that the scanner gave. The later frames stand in the held characters and in what is still to come. All places are counted
+/// in all that is pushed. So a caller that keeps only what is held, at most 269 characters, misses no later frame.
+#[tactic(auto, using(crate::proofs::lemmas::Laws::held_characters_have_the_later_frames))]
 pub fn held_characters_have_the_later_frames()
     ensures within { (past : List Character) (scan : Scan) (given : List Found) → IsHistory past scan given
         → scan.first ≤ length past }

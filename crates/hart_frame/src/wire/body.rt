@@ -22,8 +22,8 @@ pub type Body = ByteList<267>;
 /// The first of these that holds:
 ///
 /// - [`FrameFault::Truncated`] if there are no bytes;
-/// - [`FrameFault::BadDelimiter`] if the first byte is no delimiter of this profile (a delimiter has bits 4 and 3 zero and the kind 2 for
-///   STX or 6 for ACK);
+/// - [`FrameFault::BadDelimiter`] if the first byte is no STX or ACK delimiter (such a delimiter has bits 4 and 3 clear, and 2 for STX or 6
+///   for ACK in bits 2 to 0);
 /// - [`FrameFault::Truncated`] if the bytes end before the byte count;
 /// - [`FrameFault::ShortReply`] if an ACK has a byte count below 2;
 /// - [`FrameFault::Truncated`] if the bytes end before the check byte;

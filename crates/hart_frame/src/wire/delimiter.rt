@@ -1,4 +1,4 @@
-//! The first byte of a body: bit 7 the address type, bits 6 and 5 the number of expansion bytes, bits 2 to 0 the kind.
+//! The first byte of a body: bit 7 is the address type, bits 6 and 5 are the number of expansion bytes, and bits 2 to 0 are the kind.
 ghost use Rattle.std.specs.Prelude.{◌≡◌, ◌≤◌, ◌+◌, ◌*◌, ◌/◌, ◌%◌, ◌⊎◌, ◌↔◌, IsSome, IfSome, IsTrue};
 ghost use Rattle.hart_frame.specs.wire.Delimiter.{IsDelimiter, delimiter_of, is_burst_delimiter, kind_code};
 
@@ -18,7 +18,7 @@ const ACK: u8 = 0x06;
 
 const BURST: u8 = 0x01;
 
-/// The bits that are the same in all delimiters of this profile: bits 4 and 3, the physical layer, and bits 1 and 0 of the kind. Bit 2 is
+/// The bits that are the same in all delimiters of STX and ACK: bits 4 and 3 (the physical layer), and bits 1 and 0 of the kind. Bit 2 is
 /// left out, because an STX and an ACK differ in it.
 const ALIKE: u8 = 0x1B;
 
@@ -65,8 +65,8 @@ impl Delimiter {
         self.command_place() + 1
     }
 
-    /// Returns the layout of a body with this delimiter and byte count, or `None` if the count is too low: the payload of an ACK
-    /// has at least two status bytes.
+    /// Returns the layout of a body with this delimiter and this byte count. Returns `None` if the byte count of an ACK is below 2, because
+    /// its payload has at least two status bytes.
     pub(crate) fn layout(self, byte_count: u8) -> Option<Layout>
         ensures allowed { IsSome result ↔ ((kind_code self.kind ≡ 2) ⊎ (2 ≤ byte_count)) }
         ensures kind { IfSome result (λ layout. layout.kind ≡ self.kind) }
@@ -102,7 +102,7 @@ pub(crate) fn delimiter_byte(frame: &Frame) -> u8
     address_type + EXPANSION_BYTE * frame.expansion().len() as u8 + kind
 }
 
-/// Reads the byte as a delimiter. Returns `None` if it is no delimiter of this profile.
+/// Reads the byte as a delimiter. Returns `None` if it is no STX or ACK delimiter.
 pub(crate) fn read_delimiter(byte: u8) -> Option<Delimiter>
     ensures known { IsSome result ↔ IsDelimiter byte }
     ensures kind { IfSome result (λ delimiter. kind_code delimiter.kind ≡ byte % 8) }
@@ -124,7 +124,7 @@ pub(crate) fn read_delimiter(byte: u8) -> Option<Delimiter>
     })
 }
 
-/// Returns true if the byte is the delimiter of a burst message, which is not part of this profile.
+/// Returns true if the byte is the delimiter of a burst message. This crate does not decode burst messages.
 pub(crate) fn is_burst_delimiter(byte: u8) -> bool
     ensures { result ≡ is_burst_delimiter byte }
 {

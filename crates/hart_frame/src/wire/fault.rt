@@ -3,16 +3,16 @@ ghost use Rattle.hart_frame.specs.wire.FaultNumbers.{frame_fault_number};
 
 use thiserror::Error;
 
-/// Why a frame was not made, not encoded as a message, or not decoded from bytes.
+/// Why a frame was not made, encoded or decoded.
 #[derive(Clone, Copy, Debug, PartialEq, Eq, Error)]
 pub enum FrameFault {
     /// The payload of an ACK has fewer than 2 bytes, too few for its two status bytes.
     #[error("reply too short")]
     TooShortReply,
-    /// A number of preamble bytes outside 5 to 20.
+    /// The number of preamble bytes is below 5 or above 20.
     #[error("bad number of preamble bytes")]
     BadPreamble,
-    /// The first byte is no delimiter of this profile.
+    /// The first byte is no STX or ACK delimiter.
     #[error("bad delimiter")]
     BadDelimiter,
     /// The bytes end before the check byte.
@@ -21,7 +21,7 @@ pub enum FrameFault {
     /// The check byte does not give the body even parity.
     #[error("bad check byte")]
     BadCheck,
-    /// The delimiter is that of an ACK, but the byte count is below 2.
+    /// A frame with an ACK delimiter has a byte count below 2.
     #[error("reply with a short byte count")]
     ShortReply,
 }

@@ -1,4 +1,4 @@
-//! The header with which bytes begin.
+//! The header at the front of bytes.
 ghost use Rattle.std.specs.Prelude.{◌≡◌, option_map};
 ghost use Rattle.hart_frame.specs.private.Address.{IsInRange};
 
@@ -48,8 +48,8 @@ impl Header {
         self.command
     }
 
-    /// Reads the header at the front of the bytes. Returns `None` if the first byte is no delimiter of this profile, or if the bytes end
-    /// before the command.
+    /// Reads the header at the front of the bytes. Returns `None` if the first byte is no STX or ACK delimiter, or if the bytes end before
+    /// the command.
     #[tactic(auto, unfolding(crate::specs::wire::Header::header_in))]
     pub(crate) fn read(bytes: &[u8]) -> Option<Header>
         ensures { option_map header_parts result ≡ header_in bytes.now }

@@ -34,8 +34,8 @@ pub fn unique_request_len(byte_count: u8) -> usize
     body_len(UNIQUE_COMMAND_PLACE, byte_count)
 }
 
-/// Returns the length of a body whose command stands at this place. From there on come the command, the byte count, `byte_count`
-/// bytes of payload, and the check byte.
+/// Returns the length of a body whose command stands at this place. After the command come the byte count, `byte_count` bytes of payload,
+/// and the check byte.
 fn body_len(command_place: usize, byte_count: u8) -> usize
     requires { command_place + 3 + byte_count < 2 ^ 64 }
     ensures { result ≡ command_place + 3 + byte_count }

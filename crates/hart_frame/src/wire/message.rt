@@ -25,7 +25,7 @@ pub fn is_preamble_count(preambles: u8) -> bool
     (LEAST_PREAMBLES..=MOST_PREAMBLES).contains(&preambles)
 }
 
-/// Writes the frame as a message: `preambles` preamble bytes `FF`, and the frame's body. What `output` held is replaced.
+/// Writes the frame as a message: `preambles` preamble bytes `FF`, and the frame's body. Replaces what `output` held.
 ///
 /// ```rust
 /// let identify = Frame::request(MasterId::Primary, Address::polling(0)?, 0, Payload::new());
@@ -78,6 +78,7 @@ pub(crate) fn push_body<const N: usize>(frame: &Frame, output: &mut ByteList<N>)
 }
 
 /// Appends the part of the frame's body before the check byte.
+#[tactic(auto, using(std::proofs::lemmas::Grind::common_steps, crate::proofs::lemmas::wire::Body::appended))]
 fn push_checked_part<const N: usize>(frame: &Frame, output: &mut ByteList<N>)
     requires { length output.old + 267 ≤ N }
     ensures parts { (checked : List ℕ) × IsCheckedPart frame.now checked × (output.new ≡ output.old ++ checked) }

@@ -22,7 +22,7 @@ pub fn check_byte(bytes: &[u8]) -> u8
     rest.iter().fold(check, |check, byte| check ^ byte)
 }
 
-/// Returns the same as [`check_byte`]. Most bodies have fewer than 32 bytes, for which this fold takes fewer instructions.
+/// Returns what [`check_byte`] returns. Most bodies have fewer than 32 bytes, and for such bodies this function takes fewer instructions.
 #[tactic(auto, using(crate::proofs::lemmas::wire::Lane::checked_rest, std::proofs::lemmas::List::take_rest))]
 pub(crate) fn body_check(bytes: &[u8]) -> u8
     ensures { IsCheckByte bytes.now result }
@@ -33,7 +33,7 @@ pub(crate) fn body_check(bytes: &[u8]) -> u8
 }
 
 /// Returns the check byte of the first `len` bytes. The last block of these bytes may have fewer than 16 bytes. If `bytes` has 16 bytes
-/// from the start of this block on, all 16 are read at once, and the bytes from the place `len` on count as zeros.
+/// from the start of this block on, all 16 are read at once. The bytes from the place `len` on then count as zeros.
 #[inline(always)]
 pub(crate) fn front_check(bytes: &[u8], len: usize) -> u8
     requires { len ≤ length bytes.now }
@@ -61,7 +61,7 @@ fn fold_blocks(bytes: &[u8]) -> u8x16
     lanes
 }
 
-/// Returns the first `count` bytes of a block, and zeros in place of the others.
+/// Returns the first `count` bytes of a block, with zeros in place of the other bytes.
 #[inline(always)]
 fn front_lanes(block: &[u8; 16], count: usize) -> u8x16
     requires { count ≤ 16 }

@@ -1,5 +1,5 @@
-//! Addresses as plain numbers. A view holds its address in this form, because no field of a view may have a type with a model. A model is
-//! another value that contracts see in place of the value itself.
+//! Addresses as plain numbers. A view holds its address in this form, because the type of a field of a view may not implement `Model`. For
+//! a type that implements `Model`, contracts see another value in place of the value itself.
 ghost use Rattle.std.specs.Prelude.{◌≡◌};
 ghost use Rattle.hart_frame.specs.private.Address.{IsInRange};
 ghost use Rattle.hart_frame.specs.wire.PlainAddress.{address_of};

@@ -17,8 +17,8 @@ use crate::wire::sums::Sums;
 pub(crate) enum Prefix {
     /// The bytes begin with a whole body, which has this layout.
     Whole(Layout),
-    /// The bytes end too early for a body, but more bytes may complete it. `Some` gives the number of missing bytes. `None` says that the
-    /// bytes end before the byte count.
+    /// The bytes end too early for a body, but may become a body if more bytes follow. `Some` gives the number of missing bytes. `None`
+    /// says that the bytes end before the byte count.
     Cut(Option<usize>),
     /// The bytes never become a body, whatever follows them.
     Wrong(Wrong),
@@ -27,11 +27,11 @@ pub(crate) enum Prefix {
 /// What is wrong with bytes that never become a body.
 #[derive(Clone, Copy)]
 pub(crate) enum Wrong {
-    /// The first byte is no delimiter of this profile.
+    /// The first byte is no STX or ACK delimiter.
     BadDelimiter { byte: u8 },
     /// A reply has this byte count, which is below 2. The byte count is the last of the first `len` bytes.
     ShortReply { len: usize, byte_count: u8 },
-    /// The last of the first `len` bytes stands in the place of the check byte. It is `byte`, but the byte that would fit is `fits`.
+    /// The check byte, the last of the first `len` bytes, is `byte`, but the byte that would fit is `fits`.
     BadCheck { len: usize, byte: u8, fits: u8 },
 }
 
@@ -47,7 +47,7 @@ impl Wrong {
         }
     }
 
-    /// Returns the fault with which `decode` refuses such bytes.
+    /// Returns the fault that `decode` returns for bytes that are wrong in this way.
     pub(crate) fn fault(self) -> FrameFault
         ensures { result ≡ fault_in self }
     {
@@ -59,7 +59,7 @@ impl Wrong {
     }
 }
 
-/// Returns whether the bytes begin with a body, may still become one, or never become one.
+/// Returns whether the bytes begin with a body, may still become a body, or never become a body.
 pub(crate) fn prefix_of(bytes: &[u8]) -> Prefix
     ensures { IsPrefix bytes.now result }
 {
@@ -72,7 +72,7 @@ pub(crate) fn prefix_of(bytes: &[u8]) -> Prefix
     }
 }
 
-/// Returns what [`prefix_of`] returns for the bytes from `start` on. The check byte comes from sums.
+/// Returns what [`prefix_of`] returns for the bytes from `start` on, but takes the check byte from `sums`.
 #[inline(always)]
 pub(crate) fn prefix_at(bytes: &[u8], start: usize, sums: &mut Sums) -> Prefix
     requires within { start ≤ length bytes.now }
@@ -92,11 +92,11 @@ pub(crate) fn prefix_at(bytes: &[u8], start: usize, sums: &mut Sums) -> Prefix
     }
 }
 
-/// Returns the layout of the body with which the bytes begin, if they reach its check byte and nothing is wrong before it.
+/// Returns the layout of the body at the front of the bytes, if the bytes reach the check byte and nothing is wrong before it.
 ///
 /// # Errors
 ///
-/// How the bytes begin if they are cut or wrong before the check byte.
+/// The [`Prefix`] of the bytes, if they end before the check byte or are wrong before it.
 #[inline(always)]
 fn layout_in(bytes: &[u8]) -> Result<Layout, Prefix>
     ensures reaches { IfOk result (λ _. HasCheckByte bytes.now) }
@@ -126,8 +126,8 @@ fn layout_in(bytes: &[u8]) -> Result<Layout, Prefix>
     Ok(layout)
 }
 
-/// Decides by parity whether bytes that reach the check byte of a body with this layout begin with that body. The exclusive or of as many
-/// bytes as the body has is `check`.
+/// Decides by parity whether bytes begin with a body of this layout. The bytes reach the check byte of such a body, and `check` is the
+/// exclusive or of all bytes up to and including this check byte.
 #[inline(always)]
 #[tactic(auto, using(crate::proofs::lemmas::wire::Reading::whole_even, crate::proofs::lemmas::wire::Reading::odd_check))]
 fn checked_prefix(bytes: &[u8], layout: Layout, check: u8) -> Prefix

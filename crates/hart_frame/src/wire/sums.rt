@@ -1,4 +1,4 @@
-//! Check bytes of many parts of the same bytes, each from two sums.
+//! Check bytes of many parts of the same bytes. Each check byte comes from two sums.
 ghost use Rattle.std.specs.Prelude.{◌≡◌, ◌≤◌, ◌+◌, ◌-◌, ◌<◌, ℕ, List, bit_xor, drop, length, slice_index, take};
 ghost use Rattle.hart_frame.specs.private.Sums.{AreSums};
 ghost use Rattle.hart_frame.specs.wire.Parity.{IsCheckByte};
@@ -6,30 +6,32 @@ ghost use Rattle.hart_frame.specs.wire.Parity.{IsCheckByte};
 use crate::wire::parity::front_check;
 use std::simd::prelude::*;
 
-/// The number of bytes that are summed together.
+/// The number of bytes that are summed at once.
 const LANES: usize = 16;
 
-/// The greatest number of bytes that are summed: more than four of the longest bodies.
+/// The greatest number of bytes that are summed: more than the length of four of the longest bodies.
 const MOST_SUMMED: usize = 1264;
 
-/// The room for the sums of 0 to [`MOST_SUMMED`] bytes.
+/// How many sums are kept: one for each number of bytes from 0 to [`MOST_SUMMED`].
 const ROOM: usize = 1265;
 
-/// The places of the lanes, one lane further on. The first lane becomes 0. Lanes 0 to 15 are zeros, and lanes 16 to 31 are the lanes.
+/// The indices that shift 16 lanes up by one lane and put a zero in the first lane. An index of 0 to 15 selects a zero, and an index of 16
+/// to 31 selects a lane.
 const ONE_ON: [usize; LANES] = [
     0, 16, 17, 18, 19, 20, 21, 22, 23, 24, 25, 26, 27, 28, 29, 30,
 ];
 
-/// The places of the lanes, two lanes further on.
+/// The indices that shift 16 lanes up by two lanes.
 const TWO_ON: [usize; LANES] = [0, 0, 16, 17, 18, 19, 20, 21, 22, 23, 24, 25, 26, 27, 28, 29];
 
-/// The places of the lanes, four lanes further on.
+/// The indices that shift 16 lanes up by four lanes.
 const FOUR_ON: [usize; LANES] = [0, 0, 0, 0, 16, 17, 18, 19, 20, 21, 22, 23, 24, 25, 26, 27];
 
-/// The places of the lanes, eight lanes further on.
+/// The indices that shift 16 lanes up by eight lanes.
 const EIGHT_ON: [usize; LANES] = [0, 0, 0, 0, 0, 0, 0, 0, 16, 17, 18, 19, 20, 21, 22, 23];
 
-/// The check bytes of the first bytes from a place on. With them, the check byte of a part is the exclusive or of two of these sums.
+/// Sums: for each `count`, the check byte of the `count` bytes from a place on. The check byte of any part of these bytes is the exclusive
+/// or of two sums.
 #[derive(Drop)]
 pub(crate) struct Sums {
     /// The place of the first byte that is summed.
@@ -41,7 +43,7 @@ pub(crate) struct Sums {
 }
 
 impl Sums {
-    /// Returns the sum of no bytes from a place on.
+    /// Returns sums that begin at a place, with no bytes summed yet.
     pub(crate) fn new(from: usize) -> Sums
         ensures from { result.from ≡ from }
         ensures sums { (bytes : List ℕ) → from ≤ length bytes → AreSums bytes result }
@@ -70,8 +72,8 @@ impl Sums {
         self.sum_and_check(bytes, start, stop)
     }
 
-    /// Sums the bytes up to `stop`, and returns what [`Sums::check`] returns. If too few bytes follow them for whole blocks, it folds the
-    /// part instead.
+    /// Sums the bytes up to `stop`, and returns what [`Sums::check`] returns. If there are too few bytes for whole blocks, computes the
+    /// check byte without sums.
     #[inline(never)]
     fn sum_and_check(&mut self, bytes: &[u8], start: usize, stop: usize) -> u8
         requires sums { AreSums bytes.now self.old }
@@ -103,8 +105,8 @@ impl Sums {
         self.checks[stop - self.from] ^ self.checks[start - self.from]
     }
 
-    /// Sums the bytes up to `stop`, and as many after them as were summed before, as far as whole blocks and the room go. Begins anew at
-    /// `start` if the room ends before `stop`.
+    /// Sums the bytes up to `stop`, and about as many further bytes as were summed before, in whole blocks. If there is no room for sums up
+    /// to `stop`, drops the old sums and begins again at `start`.
     #[inline(always)]
     fn sum_to(&mut self, bytes: &[u8], start: usize, stop: usize)
         requires sums { AreSums bytes.now self.old }
@@ -147,7 +149,7 @@ impl Sums {
     }
 }
 
-/// Returns in each lane the check byte of the lanes up to this one, itself included.
+/// Returns, in each lane, the check byte of the lanes from the first up to and including that lane.
 #[inline(always)]
 fn running_checks(lanes: u8x16) -> u8x16
     ensures len { length result ≡ 16 }

@@ -11,7 +11,8 @@ use hart_values::{Address, MasterId};
 
 /// A frame that borrows its expansion bytes and its payload from a scanner, or from bytes in memory.
 ///
-/// Its address is in numbers, and ghost facts take the place of a model: the prover handles no borrowing struct whose fields have models.
+/// The address is held as plain numbers, and ghost facts replace a `Model`: the prover handles no borrowing struct with a field whose type
+/// implements `Model`.
 #[derive(Drop)]
 pub struct FrameView<'a> {
     kind: FrameKind,

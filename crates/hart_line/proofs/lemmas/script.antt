@@ -1,4 +1,5 @@
--- Scripts: texts whose lines say events.
+-- Scripts: texts in which each line writes an event.
 pub mod Items
 pub mod Rows
 pub mod Decided
+pub mod Digits

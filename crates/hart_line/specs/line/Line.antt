@@ -18,14 +18,16 @@ pub record LineState : Type 0 where
   pub outcomes_room : ℕ
   pub response_preambles : ℕ
 
--- A line stands for a world if its device, masters and outcomes are the world's, and its `response_preambles` are the identity's.
+-- A line stands for a world if both have the same device, masters and outcomes, and the line has the `response_preambles` of the device's
+-- identity.
 pub record Stands (start : Start) (world : World) (line : LineState) : Type 0 where
   pub device_is : line.device ≡ state_of start.device world
   pub masters_are : AreHeld start.retries world.hands line.masters
   pub outcomes_are : line.outcomes ≡ world.outcomes
   pub preambles_are : line.response_preambles ≡ start.device.identity.response_preambles
 
--- An event leads from a world to the next world. The line stands for the next world, and has what was spoken in the event.
+-- An event leads from a world to the next world. The line stands for the next world, and its list `spoken` has what was spoken in the
+-- event.
 pub record Stepped (start : Start) (world : World) (event : LineEvent) (line : LineState) : Type 0 where
   pub next : World
   pub step : Step start world event next
@@ -34,12 +36,12 @@ pub record Stepped (start : Start) (world : World) (event : LineEvent) (line : L
   pub said_is : next.spoken ≡ world.spoken ++ said
   pub spoken_are : AreSpoken said line.spoken
 
--- Take any world for which the old line stands. The event leads from this world to a next world, for which the new line stands.
+-- From each world that the old line stands for, the event leads to a next world that the new line stands for.
 abbrev pub StepsOn : Process → LineEvent → LineState → LineState → Type 0
 StepsOn process event old new = (start : Start) (world : World) → start.process ≡ process → MarksWithin world → Stands start world old
     → Stepped start world event new
 
--- In each world for which the line stands, this leg of the event has undetected damage.
+-- In each world that the line stands for, this leg of the event has undetected damage.
 abbrev pub StopsAt : Process → LineEvent → LineState → Leg → Type 0
 StopsAt process event line leg = (start : Start) (world : World) → start.process ≡ process → Stands start world line
     → HasUndetected start world event leg

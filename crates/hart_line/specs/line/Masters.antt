@@ -11,50 +11,57 @@ use Rattle.hart_line.specs.world.World.{InHand}
 use Rattle.hart_line.specs.declared.line.masters.Masters.{Masters}
 use Rattle.hart_line.specs.declared.line.masters.Submitter.{Submitter}
 
--- The hand of a master between turns, made from what a world says about it. It is empty, or has a request to be sent and its number of
--- sendings.
+-- The hand of a master between turns, as the code represents it: empty, or a request to be sent and how often it was sent already.
 abbrev pub hand_of : Option InHand → Hand
 hand_of None = Empty
 hand_of (Some held) = ToSend (record { address = held.address; request = held.request; sendings = held.sendings })
 
--- A submitter's master has this id, this retry limit and this hand. If a request is held, `place` is the number of its submission.
+-- A submitter's master has this id, this retry limit and this hand. If there is a request in hand, `place` is the number of its submission.
 pub record IsSubmitter (id : MasterId) (retries : ℕ) (hand : Hand) (held : Option InHand) (submitter : Submitter) : Type 0 where
   pub reply_limit : ℕ
   pub master_is : submitter.master ≡ record { id = id; retries = retries; reply_limit = reply_limit; hand = hand }
   pub place_is : IfSome held (λ request. submitter.place ≡ request.submission)
 
--- A master has this request in its hand, to be sent. If there is no request, the hand is empty.
+-- A master has this request in hand, to be sent. Without a request, its hand is empty.
 abbrev pub Holds : MasterId → ℕ → Option InHand → Submitter → Type 0
 Holds id retries held submitter = IsSubmitter id retries (hand_of held) held submitter
 
--- A master has just sent the request in its hand, if there is one: its count of sendings is one higher, and it awaits the reply.
+-- A master has just sent the request in its hand, if there is one. The request's count of sendings is one higher, and the master awaits the
+-- reply.
 abbrev pub Awaits : MasterId → ℕ → Option InHand → Submitter → Type 0
 Awaits id retries held submitter = IsSubmitter id retries (hand_sent (hand_of held)) held submitter
 
--- Both masters have in hand what the world says that they have.
+-- Each master's hand agrees with the world.
 pub record AreHeld (retries : EachMaster ℕ) (hands : EachMaster (Option InHand)) (masters : Masters) : Type 0 where
   pub primary : Holds Primary retries.primary hands.primary masters.primary
   pub secondary : Holds Secondary retries.secondary hands.secondary masters.secondary
 
--- In a master's turn, this master awaits the reply to the request that it had in hand. The other master has in hand what the world says.
+-- In its turn, a master awaits the reply to the request in its hand. The other master's hand agrees with the world.
 abbrev pub AreInTurn : MasterId → EachMaster ℕ → EachMaster (Option InHand) → Masters → Type 0
 AreInTurn Primary retries hands masters =
     Awaits Primary retries.primary hands.primary masters.primary × Holds Secondary retries.secondary hands.secondary masters.secondary
 AreInTurn Secondary retries hands masters =
     Awaits Secondary retries.secondary hands.secondary masters.secondary × Holds Primary retries.primary hands.primary masters.primary
 
--- A submission that is not refused puts its request into the hand, not yet sent, and its outcome is unfinished. A refused submission does
--- not change the hand, and its outcome is the refusal.
+-- If the master refuses a submission for a fault, the first outcome of the submission is this refusal. Otherwise the first outcome is
+-- unfinished, with 0 sendings.
+abbrev pub first_outcome : Option MasterFault → Outcome
+first_outcome None = Unfinished 0
+first_outcome (Some fault) = Refused fault
+
+-- An accepted submission puts its request into the hand with 0 sendings, and its outcome is unfinished. A refused submission does not
+-- change the hand, and its outcome is the refusal.
 abbrev pub Submits : Option InHand → ℕ → Address → Request → Option MasterFault → Outcome → (Option InHand → Type 0) → Type 0
 Submits held place address request None outcome Left = (outcome ≡ Unfinished 0)
     × Left (Some (record { submission = place; address = address; request = request; sendings = 0 }))
 Submits held place address request (Some fault) outcome Left = (outcome ≡ Refused fault) × Left held
 
--- The outcome of the request in a master's hand, if any, after a turn. `accepted` is the reply accepted in this turn, if any.
+-- The outcome that a turn gives to the request in the master's hand, if the master has one. `accepted` is the reply that was accepted in
+-- this turn, if any.
 abbrev pub outcome_in_turn : (retries : ℕ) → Option InHand → Option Reply → Option Outcome
 outcome_in_turn retries hand accepted = option_map (λ held. outcome_of retries (held.sendings + 1) accepted) hand
 
--- What is in the master's hand after a turn. The outcome of the request says whether it stays there.
+-- What a master has in hand after a turn. The outcome of its request says whether the request stays in hand.
 abbrev pub hand_after_turn : (retries : ℕ) → Option InHand → Option Reply → Option InHand
 hand_after_turn retries hand accepted = option_and_then (λ held. hand_left held (outcome_of retries (held.sendings + 1) accepted)) hand
 
@@ -64,7 +71,8 @@ outcomes_after_turn retries None accepted outcomes = outcomes
 outcomes_after_turn retries (Some held) accepted outcomes =
     slice_set outcomes held.submission (outcome_of retries (held.sendings + 1) accepted)
 
--- A master's turn ends. The master accepts a reply that came back, or accepts nothing. The request in its hand, if any, gets its outcome.
+-- A master's turn ends. The master accepts the returned frame as the reply, or accepts no reply. The request in its hand, if any, gets its
+-- outcome.
 pub record Concludes (who : MasterId) (retries : ℕ) (hand : Option InHand) (returned : Option FrameParts)
     (outcomes outcomes' : List Outcome) (Left : Option InHand → Type 0) : Type 0 where
   pub accepted : Option Reply

@@ -1,5 +1,5 @@
--- What the lines of a script say (implementation choice): the words that write each kind of event. This is a relation, because a function
--- would have to read items byte by byte, as the code does.
+-- The words that stand for each kind of event in a line of a script (implementation choice). The definitions are relations, because a
+-- function would have to read items byte by byte, as the code does.
 use Rattle.std.specs.Prelude.{◌≡◌, ◌≢◌, ◌⊎◌, ℕ, ◌+◌, ◌++◌, ◌/◌, ◌<◌, Any, Bool, true, false, not, nat_eq, List, [], ◌∷◌, codes, filter}
 use Rattle.std.specs.Prelude.{length, slice_get, take, Option, None, Some, Result, Ok, Err}
 use Rattle.std.specs.List.{AllZip, starts_with}
@@ -13,29 +13,29 @@ use Rattle.hart_line.specs.script.Words.{◌>>=◌, HasNoValue, IsAddressWord, I
 use Rattle.hart_line.specs.declared.script.rows.RowFault.{RowFault}
 use Rattle.hart_line.specs.declared.script.rows.RowFault.TheVariants as rows
 
--- The data of the words after COMMAND. No word means no bytes, and a single word means the bytes that it writes as DATA. The result is
+-- The data of the words after COMMAND. No word means no bytes, and a single word means the bytes that it stands for as DATA. The result is
 -- `None` if the single word is not DATA, or if there are more words.
 abbrev pub payload_of : List (List ℕ) → Option (List ℕ)
 payload_of [] = Some []
 payload_of (word ∷ []) = data_of word
 payload_of (word ∷ other ∷ more) = None
 
--- The request that COMMAND and the words of its data write, or `None` if they write no request.
+-- The request that COMMAND and the words of its data stand for, or `None` if they stand for none.
 abbrev pub request_of : List ℕ → List (List ℕ) → Option Request
 request_of command payload = do
   number ← command_of command
   bytes ← payload_of payload
   result_ok (request_reading number bytes)
 
--- The word of a leg is `ok` if the leg is clean, and `lost` if it is lost. Otherwise the word consists of the items of the characters that
--- are heard, end to end.
+-- The word of a leg is `ok` if the leg is clean, and `lost` if it is lost. Otherwise the word has the items of the characters that are
+-- heard, one after another.
 abbrev pub IsLegWord : List ℕ → Heard → Type 0
 IsLegWord word Clean = word ≡ codes "ok"
 IsLegWord word Lost = word ≡ codes "lost"
 IsLegWord word (Chars chars) = IsItemsWord word chars
 
--- The words of a line say an event. After `submit` come WHO, ADDRESS, COMMAND and perhaps DATA. After `turn` come WHO, UP and DOWN. UP and
--- DOWN say what is heard in the two legs. After `protect` comes `on` or `off`. After `noise` comes one word, with the items of the
+-- The words of a line stand for an event. After `submit` come WHO, ADDRESS, COMMAND and perhaps DATA. After `turn` come WHO, UP and DOWN;
+-- UP and DOWN say what is heard in the two legs. After `protect` comes `on` or `off`. After `noise` comes one word, with the items of the
 -- characters that are heard. After `restart` comes nothing.
 abbrev pub Says : List (List ℕ) → LineEvent → Type 0
 Says words (Submit who address request) = (master to command : List ℕ) × (payload : List (List ℕ))
@@ -53,19 +53,19 @@ abbrev pub is_skipped : List (List ℕ) → Bool
 is_skipped [] = true
 is_skipped (word ∷ words) = starts_with nat_eq word (codes "#")
 
--- A line is bad if it is not skipped and says no event.
+-- A line is bad if it is not skipped and stands for no event.
 abbrev pub IsBadLine : List (List ℕ) → Type 0
 IsBadLine words = (is_skipped words ≡ false) × HasNoValue (Says words)
 
--- Each line that is not skipped says one event, and these are the events in order.
+-- Each line that is not skipped stands for one event, and `events` are these events, in order.
 abbrev pub AreEvents : List (List (List ℕ)) → List LineEvent → Type 0
 AreEvents lines events = AllZip Says (filter (λ words. not (is_skipped words)) lines) events
 
--- The script of a text is the list of the events that the lines of the text say.
+-- The script of a text is the list of the events that its lines stand for.
 abbrev pub IsScript : List ℕ → List LineEvent → Type 0
 IsScript text events = AreEvents (lines_in_words text) events
 
--- The first bad line of a text has this number, counted from 1. The lines before it say events or are skipped.
+-- The number, counted from 1, of the first bad line of a text. Each line before it stands for an event or is skipped.
 pub record HasFirstBadLine (text : List ℕ) (number : ℕ) : Type 0 where
   pub before : ℕ
   pub words : List (List ℕ)
@@ -75,27 +75,27 @@ pub record HasFirstBadLine (text : List ℕ) (number : ℕ) : Type 0 where
   pub bad : IsBadLine words
   pub good : AreEvents (take before (lines_in_words text)) events
 
--- A word of items needs room for half as many characters as it has bytes, rounded down. A word of fewer than two bytes needs none.
+-- A word of items needs memory for one character for every two of its bytes. A word of fewer than two bytes needs no memory.
 abbrev pub IsNeededByItems : List ℕ → ℕ → Type 0
 IsNeededByItems word items = (0 < items) × (items ≡ length word / 2)
 
--- The word of a leg needs room as a word of items does, unless it is `ok` or `lost`.
+-- Unless the word of a leg is `ok` or `lost`, it needs the memory that a word of items needs.
 abbrev pub IsNeededByLeg : List ℕ → ℕ → Type 0
 IsNeededByLeg word items = (word ≢ codes "ok") × (word ≢ codes "lost") × IsNeededByItems word items
 
--- The words of a line need room for a leg if they are `turn` and three words, and for items if they are `noise` and one word. Any other
--- words need no room.
+-- The words of a line need memory for a leg if they are `turn` and three words, and memory for items if they are `noise` and one word.
+-- Other words need no memory.
 abbrev pub IsNeededByWords : List (List ℕ) → ℕ → Type 0
 IsNeededByWords (kind ∷ who ∷ up ∷ down ∷ []) items = (kind ≡ codes "turn") × (IsNeededByLeg up items ⊎ IsNeededByLeg down items)
 IsNeededByWords (kind ∷ word ∷ []) items = (kind ≡ codes "noise") × IsNeededByItems word items
 IsNeededByWords words items = ⊥
 
--- A line that is not skipped needs room for the one event that it says, or the room that its words need.
+-- A line that is not skipped needs memory for its one event, and the memory that its words need.
 abbrev pub IsNeededByLine : List (List ℕ) → ℕ → Type 0
 IsNeededByLine words items =
     (is_skipped words ≡ false) × (((event : LineEvent) × Says words event × (items ≡ 1)) ⊎ IsNeededByWords words items)
 
--- A text needs room for this number of items if one of its lines needs it.
+-- A text needs memory for this number of items if one of its lines needs memory for this number.
 abbrev pub IsNeededByText : List ℕ → ℕ → Type 0
 IsNeededByText text items = Any (λ words. IsNeededByLine words items) (lines_in_words text)
 
@@ -107,18 +107,18 @@ IsScriptFault text (Undetected number leg) = ⊥
 
 -- Only private calls use the definitions from here on. They describe the result of reading one line.
 
--- The result of reading: a value for which `IsSaid` holds; `Bad`, if there is no such value; or `Memory`, if room was refused for a number
--- of items for which `IsNeeded` holds.
+-- The result of reading a value: a value for which `IsSaid` is true, `Bad` if there is no such value, or `Memory` if memory was refused for
+-- a number of items for which `IsNeeded` is true.
 abbrev pub ReadsWords : {T : Type 0} → (ℕ → Type 0) → (T → Type 0) → Result T RowFault → Type 0
 ReadsWords {T} IsNeeded IsSaid (Ok value) = IsSaid value
 ReadsWords {T} IsNeeded IsSaid (Err rows.Bad) = HasNoValue IsSaid
 ReadsWords {T} IsNeeded IsSaid (Err (rows.Memory room)) = IsNeeded room.items
 
--- A line adds the event that it says to these events, or none if it is skipped.
+-- A line that is skipped leaves the events unchanged. Any other line adds its event to the events.
 abbrev pub AddsLine : List (List ℕ) → List LineEvent → List LineEvent → Type 0
 AddsLine words old new = (said : List LineEvent) × AreEvents (words ∷ []) said × (new ≡ old ++ said)
 
--- Reading the line with this number fails if the line is bad, or because room that the line needs is refused.
+-- Reading the line with this number fails because the line is bad, or because memory that it needs is refused.
 abbrev pub IsLineFault : ℕ → List (List ℕ) → LineFault → Type 0
 IsLineFault number words (BadLine at) = (at ≡ number) × IsBadLine words
 IsLineFault number words (Memory room) = IsNeededByLine words room.items

@@ -12,7 +12,7 @@ use Rattle.hart_values.specs.address.DeviceNumbers.{DeviceNumbers}
 use Rattle.hart_line.specs.Types.{Address, MasterId, Primary, Secondary}
 use Rattle.hart_values.specs.declared.address.Address.TheVariants.{Polling, Unique}
 
--- The second reading is given the value that the first reading found. The result is `None` if either reading finds nothing.
+-- Reads twice: the second reading gets the value that the first reading found. The result is `None` if one of the readings finds nothing.
 infixl 10 ◌>>=◌
 abbrev pub ◌>>=◌ : {A B : Type 0} → Option A → (A → Option B) → Option B
 read >>= next = option_and_then next read
@@ -25,8 +25,8 @@ named_in {T} table word = lookup (λ name. bytes_eq word name) table
 abbrev pub who_of : List ℕ → Option MasterId
 who_of word = named_in ((codes "P", Primary) ∷ (codes "S", Secondary) ∷ []) word
 
--- The number that a word writes in decimal. The result is `None` unless the word has 1 to `most_digits` digits and the number is at most
--- `greatest`.
+-- The number that a word stands for in decimal, if the word has 1 to `most_digits` digits and the number is at most `greatest`. Otherwise
+-- the result is `None`.
 abbrev pub decimal_of : (most_digits greatest : ℕ) → List ℕ → Option ℕ
 decimal_of most_digits greatest word =
     if all_ascii_digits word && nat_le 1 (length word) && nat_le (length word) most_digits && nat_le (digits_value 10 word) greatest
@@ -37,7 +37,7 @@ abbrev pub polling_of : List ℕ → Option ℕ
 polling_of [] = None
 polling_of (at ∷ digits) = if at == 64 then decimal_of 2 63 digits else None
 
--- The numbers of a device in five bytes: two bytes for its type, of which the lower 14 bits count, and three bytes for its id.
+-- The numbers of a device from five bytes: two bytes for its type, of which only the lower 14 bits count, and three bytes for its id.
 abbrev pub numbers_of : List ℕ → DeviceNumbers
 numbers_of bytes = record {
   expanded_type = (256 * slice_index bytes 0 + slice_index bytes 1) % 16384;
@@ -48,13 +48,13 @@ numbers_of bytes = record {
 abbrev pub device_of : List ℕ → Option DeviceNumbers
 device_of word = option_map numbers_of (result_ok (decode_sized word 5))
 
--- An address is written as a polling address or as a device; the broadcast address may also be written `all`.
+-- An address is `@` and a polling address, ten hex digits, or `all`.
 abbrev pub address_of : List ℕ → Option Address
 address_of word =
     if bytes_eq word (codes "all") then Some broadcast
     else option_or (option_map Polling (polling_of word)) (option_map Unique (device_of word))
 
--- A command is written in one to three digits, up to 255.
+-- A command is a number up to 255, written in one to three digits.
 abbrev pub command_of : List ℕ → Option ℕ
 command_of word = decimal_of 3 255 word
 
@@ -62,27 +62,27 @@ command_of word = decimal_of 3 255 word
 abbrev pub data_of : List ℕ → Option (List ℕ)
 data_of word = result_ok (decode_of word) >>= (λ bytes. if nat_le (length bytes) 255 then Some bytes else None)
 
--- A word names this master.
+-- A word stands for this master.
 abbrev pub IsWho : List ℕ → MasterId → Type 0
 IsWho word master = who_of word ≡ Some master
 
--- A word writes this address.
+-- A word stands for this address.
 abbrev pub IsAddressWord : List ℕ → Address → Type 0
 IsAddressWord word address = address_of word ≡ Some address
 
--- A word writes this command.
+-- A word stands for this command.
 abbrev pub IsCommandWord : List ℕ → ℕ → Type 0
 IsCommandWord word command = command_of word ≡ Some command
 
--- A word writes these data.
+-- A word stands for these data.
 abbrev pub IsDataWord : List ℕ → List ℕ → Type 0
 IsDataWord word bytes = data_of word ≡ Some bytes
 
--- `IsValue` holds for no value.
+-- No value makes `IsValue` true.
 abbrev pub HasNoValue : {T : Type 0} → (T → Type 0) → Type 0
 HasNoValue {T} IsValue = (value : T) → IsValue value → ⊥
 
--- If a value is found, `IsValue` holds for it. If nothing is found, `IsValue` holds for no value.
+-- If a value is found, `IsValue` is true of it. If nothing is found, no value makes `IsValue` true.
 abbrev pub Finds : {T : Type 0} → (T → Type 0) → Option T → Type 0
 Finds {T} IsValue None = HasNoValue IsValue
 Finds {T} IsValue (Some value) = IsValue value

@@ -1,14 +1,14 @@
--- The last execution of each submission in a list of executions, and how often a submission was executed. The executions of a script's last
--- world are those of all unrefused writes in the script (implementation choice).
+-- The last execution of each submission in a list of executions, and how often a submission was executed (implementation choice). In a
+-- script's last world, the list has the executions of all unrefused writes of the script.
 use Rattle.std.specs.Prelude.{ℕ, ◌==◌, Bool, List, [], ◌∷◌, count_by, if◌then◌else◌}
 use Rattle.std.specs.List.{list_any}
 use Rattle.hart_line.specs.world.World.{Execution}
 
--- Whether some execution of the list is of this submission.
+-- Whether a list has an execution of this submission.
 abbrev pub has_execution_of : ℕ → List Execution → Bool
 has_execution_of number executions = list_any (λ execution. execution.submission == number) executions
 
--- Keeps each execution that has no later execution of the same submission. The order stays.
+-- The executions that have no later execution of the same submission, in the same order.
 abbrev pub last_executions : List Execution → List Execution
 last_executions [] = []
 last_executions (execution ∷ later) =

@@ -1,4 +1,4 @@
--- The promises about a script that `Led` does not make: about its worlds, and the returned device and outcomes (implementation choice).
+-- Promises about a script beyond `Led`: promises about its worlds, and about the returned device and outcomes (implementation choice).
 use Rattle.std.specs.Prelude.{◌≡◌, ◌≤◌, ◌+◌, ◌%◌, ◌^◌, List, [], ℕ, Option, Some, IfSome, IsTrue, false, length, slice_get}
 use Rattle.hart_values.specs.EachMaster.{of_master}
 use Rattle.hart_line.specs.Types.{MasterId, Reply, Request, DeviceState, Heard, LineEvent, Turn, Outcome, Answered}
@@ -12,7 +12,7 @@ use Rattle.hart_line.specs.world.Promises.{IsRefusedByDevice, IsStepOf, IsUnrefu
 use Rattle.hart_line.specs.world.Step.{IsLast}
 use Rattle.hart_line.specs.world.World.{Start, World, first_world, overwrites_of, state_of}
 
--- What is promised if a script was carried out and this device and these outcomes are returned.
+-- The promises about a script that was carried out, with the device and the outcomes that were returned.
 pub record KeepsPromises (start : Start) (events : List LineEvent) (device : DeviceState) (outcomes : List Outcome) : Type 0 where
   -- Each request is well made, since it is a value of the type `Request`.
   pub well_made : AreWellMade events
@@ -47,8 +47,8 @@ pub record KeepsPromises (start : Start) (events : List LineEvent) (device : Dev
       → IsExecutedInItsTurn start events number request reply sendings
   pub at_most_once_a_sending : (world : World) → IsLast start events world → (number : ℕ)
       → times_executed number world.executions ≤ sendings_in (slice_get outcomes number)
-  -- If a master's configuration-changed bit is clear after the script, the counter and the registers are as they were before the turn of
-  -- this master's last Command 38 with code 0. If that command named a counter, the device's counter still has the named value.
+  -- Suppose a master's configuration-changed bit is clear after the script. Then the counter and the registers are as they were before the
+  -- turn of this master's last Command 38 with code 0. If that command named a counter, the device's counter still has the named value.
   pub no_change_unseen : (who : MasterId) (before : World) (given : Option ℕ) → IsLastReset start events who before given
       → of_master who device.changed ≡ false → IfSome given (λ counter. device.counter ≡ counter)
       × (device.counter ≡ (state_of start.device before).counter) × (device.contents ≡ (state_of start.device before).contents)

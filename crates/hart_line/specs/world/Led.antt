@@ -1,11 +1,12 @@
--- What a script leads to, as it is returned (implementation choice). A statement about the script alone would hold whatever a call returns.
+-- What a script leads to, in terms of what a call returns (implementation choice). `Led` names what the call returns, because a statement
+-- about the script alone would also be true of a call that returns something else.
 use Rattle.std.specs.Prelude.{◌≡◌, List}
 use Rattle.hart_line.specs.Types.{DeviceState, LineEvent, Outcome, Spoken}
 use Rattle.hart_line.specs.world.Spoken.{AreSpoken}
 use Rattle.hart_line.specs.world.Step.{IsLast}
 use Rattle.hart_line.specs.world.World.{Start, World, state_of}
 
--- A script has led to this device, these outcomes and these spoken frames if the script's last world has them.
+-- A script has led to this device, these outcomes and these spoken frames: the script's last world has all of them.
 pub record Led (start : Start) (events : List LineEvent) (device : DeviceState) (outcomes : List Outcome) (spoken : List Spoken)
     : Type 0 where
   pub world : World

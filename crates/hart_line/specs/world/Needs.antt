@@ -1,4 +1,4 @@
--- The room that a script needs (implementation choice).
+-- The memory that a script needs (implementation choice).
 use Rattle.std.specs.Prelude.{◌≡◌, ◌⊎◌, ℕ, ◌+◌, ◌*◌, ◌<◌, Bool, true, false, List, count_by}
 use Rattle.hart_line.specs.Types.{LineEvent, Submit, Turn, Noise}
 
@@ -21,11 +21,11 @@ is_noise event = false
 abbrev pub most_spoken : List LineEvent → ℕ
 most_spoken events = 2 * count_by is_turn events + count_by is_noise events
 
--- Events need room for an outcome of each submission, if there is any submission.
+-- Events need memory for an outcome of each submission, if there is any submission.
 abbrev pub IsNeededForOutcomes : List LineEvent → ℕ → Type 0
 IsNeededForOutcomes events items = (0 < items) × (items ≡ count_by is_submission events)
 
--- If spoken frames are kept, events need room for this number of items in one of two lists. One list is for their outcomes. The other is
--- for the greatest number of frames that can be spoken in the events.
+-- If spoken frames are kept, events need memory for two lists. `items`, at least 1, is the length of one of these lists: the number of
+-- submissions, or the greatest number of frames that can be spoken.
 abbrev pub IsNeededBy : List LineEvent → ℕ → Type 0
 IsNeededBy events items = IsNeededForOutcomes events items ⊎ (0 < items) × (items ≡ most_spoken events)

@@ -36,11 +36,11 @@ submissions_of (Submit who address request ∷ events) =
     record { who = who; address = address; request = request } ∷ submissions_of events
 submissions_of (event ∷ events) = submissions_of events
 
--- The submission of a request that is in a master's hand.
+-- The submission whose request is in a master's hand.
 abbrev pub submission_in : MasterId → InHand → Submission
 submission_in who held = record { who = who; address = held.address; request = held.request }
 
--- One event of a script: the events before it lead to a world, and the event leads from this world to the next.
+-- One event of a script: the events before it lead to a world, and the event leads from this world to the next world.
 pub record IsStepOf (start : Start) (from : World) (events : List LineEvent) (before : World) (event : LineEvent) (next : World)
     : Type 0 where
   pub prefix : List LineEvent
@@ -56,8 +56,8 @@ pub record IsWellMadeStart (start : Start) : Type 0 where
 
 -- An accepted reply is the device's answer in the turn in which its request was last sent. The request in hand, with its address, is the
 -- request that was submitted to this turn's master under this number. In this turn the request was sent for the last time, and arrived at
--- the device. The device's answer came back and was accepted as this reply, with the device's code, status and data. The effect of the
--- request entered the executions, and the request left the hand.
+-- the device. The device's answer came back and was accepted as this reply, with the device's code, status and data. If the device executed
+-- the request as a write, this execution was added to the executions. The request left the hand.
 pub record AnswersLastSending (start : Start) (events : List LineEvent) (number : ℕ) (reply : Reply) (sendings : ℕ) : Type 0 where
   pub before : World
   pub next : World
@@ -81,11 +81,11 @@ pub record AnswersLastSending (start : Start) (events : List LineEvent) (number 
   pub reached : slice_get next.outcomes number ≡ Some (Answered reply sendings)
   pub left : of_master who next.hands ≡ None
 
--- The requests that are submitted, in order, including refused requests.
+-- The requests of all submissions, in order, including the requests of refused submissions.
 abbrev pub requests_of : List LineEvent → List Request
 requests_of events = map (λ submission. submission.request) (submissions_of events)
 
--- Each request that is submitted is well made.
+-- The request of each submission is well made.
 abbrev pub AreWellMade : List LineEvent → Type 0
 AreWellMade events = All IsRequest (requests_of events)
 
@@ -97,7 +97,8 @@ sendings_in (Some (Unfinished sendings)) = sendings
 sendings_in (Some (Refused fault)) = 0
 sendings_in None = 0
 
--- In the turn in which a submission was answered, one execution was added: of this submission, with the overwrite of its request.
+-- In the turn in which a submission was answered, one execution was added. It has the number of this submission and the overwrite of its
+-- request.
 pub record IsExecutedInItsTurn (start : Start) (events : List LineEvent) (number : ℕ) (request : Request) (reply : Reply) (sendings : ℕ)
     : Type 0 where
   pub answered : AnswersLastSending start events number reply sendings
@@ -105,13 +106,13 @@ pub record IsExecutedInItsTurn (start : Start) (events : List LineEvent) (number
   pub overwrites : overwrite_of request ≡ Some overwrite
   pub executed : answered.next.executions ≡ answered.before.executions ++ record { submission = number; overwrite = overwrite } ∷ []
 
--- What an event brought the device: for a turn, what the leg up of the turn brought. Any other event counts as no message, because only a
--- turn can bring the device a frame. Noise may bring a garbled request, but such a request has no effect.
+-- What an event brought the device. For a turn, it is what the leg up brought. Any other event counts as no message, because only a turn
+-- can bring the device a frame. Noise may bring a garbled request, but a garbled request has no effect.
 abbrev pub brought_in_step : (start : Start) (before : World) (event : LineEvent) (next : World) → Step start before event next → Brought
 brought_in_step start before (Turn who up down) next step = step.brought
 brought_in_step start before event next step = NoMessage
 
--- What was brought is an unrefused write: the frame of a configuration write, which the device answers with code 0.
+-- The device was brought an unrefused write: the frame of a configuration write that the device answers with code 0.
 abbrev pub IsUnrefusedWrite : DeviceState → Brought → Type 0
 IsUnrefusedWrite state (OneFrame frame) =
     IsTrue (is_write frame.command) × (is_answered state frame ≡ true) × (code_of state frame ≡ 0)
@@ -127,7 +128,7 @@ pub record IsExecutedFromHand (start : Start) (events : List LineEvent) (who : M
   pub overwrites : overwrite_of held.request ≡ Some overwrite
   pub executed : next.executions ≡ before.executions ++ record { submission = held.submission; overwrite = overwrite } ∷ []
 
--- A turn in which a frame arrived at the device, and the device answered it with a nonzero code or not at all.
+-- A frame arrived at the device in a turn, and the device answered it with a nonzero code or not at all.
 pub record IsRefusedByDevice (start : Start) (events : List LineEvent) (before next : World) : Type 0 where
   pub who : MasterId
   pub up : Heard
@@ -142,8 +143,9 @@ abbrev pub HasNoReset : Start → World → List LineEvent → MasterId → Type
 HasNoReset start from events who = (before next : World) (up down : Heard)
     (turn : IsStepOf start from events before (Turn who up down) next) → effect_on (state_of start.device before) turn.step.brought ≢ Resets
 
--- In a turn of the script, a Command 38 of this master was executed with code 0, and no later turn of this master resets the master's
--- configuration-changed bit. `before` is the world before that turn, and `given` is the counter that the command named, if any.
+-- The last reset of a master's configuration-changed bit. In a turn of the script, a Command 38 of this master was executed with code 0,
+-- and no later turn of this master resets the bit. `before` is the world before that turn, and `given` is the counter that the command
+-- named, if any.
 pub record IsLastReset (start : Start) (events : List LineEvent) (who : MasterId) (before : World) (given : Option ℕ) : Type 0 where
   pub next : World
   pub up : Heard

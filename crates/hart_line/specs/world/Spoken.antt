@@ -12,12 +12,12 @@ pub record SpokenFrame : Type 0 where
   pub preambles : ℕ
   pub frame : FrameParts
 
--- A party speaks a frame, if there is one, after this number of preamble bytes.
+-- The spoken frame of a party, after this number of preamble bytes, if the party speaks a frame.
 abbrev pub spoken_by : Party → ℕ → Option FrameParts → Option SpokenFrame
 spoken_by party preambles None = None
 spoken_by party preambles (Some frame) = Some (record { party = party; preambles = preambles; frame = frame })
 
--- The frame that a call has written, if the call says that there is one.
+-- The frame that a call has written, if the call returned true, and otherwise `None`.
 abbrev pub frame_if : Bool → FrameParts → Option FrameParts
 frame_if true frame = Some frame
 frame_if false frame = None
@@ -27,12 +27,12 @@ abbrev pub frame_of : Option SpokenFrame → Option FrameParts
 frame_of None = None
 frame_of (Some said) = Some said.frame
 
--- Each master, as a party of the line.
+-- A master as a party of the line.
 abbrev pub party_of : MasterId → Party
 party_of Primary = parties.Primary
 party_of Secondary = parties.Secondary
 
--- Own profile: a master puts 20 preamble bytes before each request.
+-- Implementation choice: a master puts 20 preamble bytes before each request.
 abbrev pub master_preambles : ℕ
 master_preambles = 20
 

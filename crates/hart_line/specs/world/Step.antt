@@ -19,14 +19,14 @@ use Rattle.hart_line.specs.world.Spoken.{SpokenFrame, master_preambles, spoken_b
 use Rattle.hart_line.specs.world.World.{Execution, InHand, Start, World, first_world, state_of}
 use Rattle.hart_line.specs.declared.line.report.Party.TheVariants.{Device}
 
--- A submission is refused as pending if a request is in the master's hand already. Otherwise it is refused as wrongly addressed if it may
--- not be sent to its address.
+-- A submission is refused with `Pending` if a request is in the master's hand already. Otherwise it is refused with `WrongAddress` if its
+-- request may not be sent to its address.
 abbrev pub submission_fault : Option InHand → Address → Request → Option MasterFault
 submission_fault (Some held) address request = Some Pending
 submission_fault None address request = if may_ask address request then None else Some WrongAddress
 
--- A submission that is not refused puts its request, which has not been sent yet, into the master's hand. Its outcome is unfinished. A
--- refused submission only adds its outcome, and does not change the hand.
+-- An accepted submission puts its request into the master's hand with 0 sendings, and adds an unfinished outcome. A refused submission only
+-- adds its refusal as the outcome, and does not change the hand.
 abbrev pub submitted : World → MasterId → Address → Request → Option MasterFault → World
 submitted world who address request None = record world {
   hands = with_master who
@@ -35,7 +35,7 @@ submitted world who address request None = record world {
 }
 submitted world who address request (Some fault) = record world { outcomes = world.outcomes ++ Refused fault ∷ [] }
 
--- In its turn a master sends the request in its hand: a master's preamble bytes, and then an STX with the data of the request.
+-- The frame that a master sends in its turn: an STX with the request in its hand, after `master_preambles` preamble bytes.
 abbrev pub spoken_request : MasterId → InHand → SpokenFrame
 spoken_request who held = record {
   party = party_of who;
@@ -48,17 +48,17 @@ abbrev pub sent_by : MasterId → Option InHand → Option SpokenFrame
 sent_by who None = None
 sent_by who (Some held) = Some (spoken_request who held)
 
--- The device sends back its answer to what it was brought, after the number of preamble bytes that its identity gives.
+-- What the device sends back: its answer, if any, after the number of preamble bytes that its identity gives.
 abbrev pub sent_back : Start → World → Brought → Option SpokenFrame
 sent_back start world brought = spoken_by Device start.device.identity.response_preambles
     (answer_to (state_of start.device world) start.process brought)
 
--- A frame that arrives has its effect on the device. A garbled request has no effect. Without a message there is no effect either.
+-- The effect on the device of what it was brought. Only a frame has an effect: a garbled request has none, and `NoMessage` has none.
 abbrev pub effect_on : DeviceState → Brought → Effect
 effect_on state (OneFrame frame) = effect_of state frame
 effect_on state brought = Nothing
 
--- An executed write is added to the executions, with the number of its submission.
+-- An executed write is added to the executions, under the number of its submission.
 abbrev pub executions_after : Effect → ℕ → List Execution → List Execution
 executions_after (Executes overwrite) number executions = executions ++ record { submission = number; overwrite = overwrite } ∷ []
 executions_after effect number executions = executions
@@ -74,8 +74,8 @@ abbrev pub cold_start_after : DeviceState → MasterId → Brought → EachMaste
 cold_start_after state who (OneFrame frame) = if is_answered state frame then with_master who false state.cold_start else state.cold_start
 cold_start_after state who brought = state.cold_start
 
--- A master accepts a frame that comes back if it is a reply to the request in hand. The master accepts no reply (`None`) if the frame is
--- not such a reply, if no frame comes back, or if no request is in hand.
+-- A master accepts the frame that comes back if it is a reply to the request in hand. It accepts no reply (`None`) if the frame is not such
+-- a reply, if no frame comes back, or if no request is in hand.
 abbrev pub Accepts : MasterId → Option InHand → Option FrameParts → Option Reply → Type 0
 Accepts who None returned accepted = accepted ≡ None
 Accepts who (Some held) None accepted = accepted ≡ None
@@ -88,19 +88,19 @@ abbrev pub outcome_of : (retries sendings : ℕ) → Option Reply → Outcome
 outcome_of retries sendings (Some reply) = Answered reply sendings
 outcome_of retries sendings None = if nat_le sendings retries then Unfinished sendings else NoReply sendings
 
--- An unfinished request stays in hand, with its sendings. Any other request leaves the hand.
+-- What stays in hand: an unfinished request, with its count of sendings. Any other request leaves the hand.
 abbrev pub hand_left : InHand → Outcome → Option InHand
 hand_left held (Unfinished sendings) = Some (record held { sendings = sendings })
 hand_left held outcome = None
 
--- If the device answers what it was brought, the answer is added to what was spoken. The rest of the world is unchanged.
+-- If the device answers what it was brought, the answer is added to what was spoken. Nothing else in the world changes.
 abbrev pub replied : Start → World → Brought → World
 replied start world brought = record world { spoken = world.spoken ++ option_to_list (sent_back start world brought) }
 
--- A turn of a master in which the device was brought `brought` and the master accepted `accepted`. With nothing in hand, only the device's
--- answer, if any, is spoken. Otherwise the request is spoken, and then the answer, if any. The effect enters the executions under the
--- number of the submission, or sets the master's mark. If the frame is answered, the master's cold start bit is cleared. The submission
--- gets its outcome, which says whether the request stays in hand.
+-- A turn of a master in which the device was brought `brought` and the master accepted `accepted`. If the master has nothing in hand, only
+-- the device's answer is spoken, if there is one. Otherwise the request is spoken, and then the answer, if there is one. A write that the
+-- device executes is added to the executions, under the number of the submission. A reset by Command 38 sets the master's mark. If the
+-- frame is answered, the master's cold start bit is cleared. The submission gets its outcome, which says whether the request stays in hand.
 abbrev pub turned : Start → World → MasterId → Option InHand → Brought → Option Reply → World
 turned start world who None brought accepted = replied start world brought
 turned start world who (Some held) brought accepted =
@@ -116,7 +116,8 @@ turned start world who (Some held) brought accepted =
       spoken = world.spoken ++ spoken_request who held ∷ option_to_list (sent_back start world brought);
     }
 
--- The next world after a turn depends on what the turn brings the device, what comes back of its answer, and which reply is accepted.
+-- The next world after a turn depends on three things: what the turn brings the device, what comes back of the device's answer, and which
+-- reply is accepted.
 pub record IsTurn (start : Start) (world : World) (who : MasterId) (up down : Heard) (next : World) : Type 0 where
   pub brought : Brought
   pub arrives : Reaches start.device.identity up (sent_by who (of_master who world.hands)) brought

@@ -1,6 +1,5 @@
--- The world of a script (implementation choice): what has happened on the line. Device and masters do not know its executions and numbers
--- of
--- submissions.
+-- The world of a script (implementation choice): what has happened on the line. The device and the masters do not know the executions and
+-- the numbers of submissions.
 use Rattle.std.specs.Prelude.{◌≡◌, ℕ, ◌≤◌, ◌+◌, ◌%◌, ◌^◌, ◌||◌, nat_lt, Bool, List, [], length, map, Option, None, Some}
 use Rattle.hart_line.specs.Types.{Address, EachMaster, MasterId, Overwrite, Request, DeviceState, Process, Outcome}
 use Rattle.hart_values.specs.EachMaster.{of_master}
@@ -19,9 +18,9 @@ pub record InHand : Type 0 where
   pub request : Request
   pub sendings : ℕ
 
--- A world has the executions, oldest first, each master's mark, if any, and whether the device is protected. It also has each master's cold
--- start bit, what each master has in hand, the outcome of each submission so far, and what was spoken. A master's mark is the number of
--- executions when the master's last Command 38 was executed.
+-- What has happened so far: the executions (oldest first), each master's mark (if any), and whether the device is protected. Also each
+-- master's cold start bit, what each master has in hand, the outcome of each submission, and what was spoken. A master's mark is the number
+-- of executions when the master's last Command 38 was executed.
 pub record World : Type 0 where
   pub executions : List Execution
   pub marks : EachMaster (Option ℕ)
@@ -53,15 +52,15 @@ first_world start = record {
 abbrev pub overwrites_of : List Execution → List Overwrite
 overwrites_of executions = map (λ execution. execution.overwrite) executions
 
--- With a mark, a master's configuration-changed bit is set if the mark is less than the number of executions. Without a mark, the
--- bit is set if it was set initially or if there are executions.
+-- Whether a master's configuration-changed bit is set. With a mark, it is set if the mark is less than the number of executions. Without a
+-- mark, it is set if it was set initially or if there are executions.
 abbrev pub is_changed : Bool → Option ℕ → ℕ → Bool
 is_changed initially None count = initially || nat_lt 0 count
 is_changed initially (Some mark) count = nat_lt mark count
 
 -- The device in a world. Each register holds the bytes of the newest execution that names this register. A register that no execution names
--- holds its initial bytes. The counter has grown by the number of executions, with 0 after 65535. Each configuration-changed bit is as its
--- master's mark says. Protection and the cold start bits are those of the world. The identity stays.
+-- holds its initial bytes. The counter has grown by the number of executions, with 0 after 65535. Each configuration-changed bit is as
+-- `is_changed` says for its master's mark. Protection and the cold start bits are those of the world. The identity is unchanged.
 abbrev pub state_of : DeviceState → World → DeviceState
 state_of initial world = record initial {
   contents = registers_of (overwrites_of world.executions) initial.contents;

@@ -11,7 +11,7 @@ use std::marker::Model;
 /// The frames that are spoken in one event: at most two, a request and a reply. The frames are stored in the value itself, without
 /// allocation.
 ///
-/// Contracts see the list of these frames.
+/// In contracts, a value of this type is the list of these frames.
 #[derive(Drop)]
 pub struct EventFrames {
     first: Spoken,
@@ -31,7 +31,7 @@ impl Model for EventFrames {
 }
 
 impl EventFrames {
-    /// Returns no frames, for an event in which nothing was spoken yet.
+    /// Returns an empty list, for an event in which nothing was spoken yet.
     pub fn new() -> Self
         ensures { result ≡ [] }
     {
@@ -42,7 +42,7 @@ impl EventFrames {
         }
     }
 
-    /// Adds the frame, if there is one, as spoken by this party after this number of preamble bytes.
+    /// Appends a frame, with the party that spoke it and its number of preamble bytes. Without a frame, appends nothing.
     pub fn speak(&mut self, party: Party, preambles: u8, frame: Option<&Frame>)
         requires { length self.old ≤ 1 }
         ensures speaks { Speaks (spoken_by party preambles (option_copied frame.entry)) self.old self.new }
@@ -60,8 +60,8 @@ impl EventFrames {
         }
     }
 
-    /// Notes these frames in a log, in order. Stops at the first frame for which the log has no room. Afterwards no frame is kept, even if
-    /// the log had no room.
+    /// Notes these frames in a log, in order, and stops at the first frame for which the log has no room. Afterwards this list is empty,
+    /// whether or not all of its frames were noted.
     pub fn note_in<L: Log>(&mut self, log: &mut L) -> Result<(), NoRoom>
         ensures noted { OnOk result (L.notes log.old self.old log.new) }
         ensures refused { IfErr result (λ none. (0 < none.items) × Any (λ said. L.needs said none.items) self.old) }
@@ -90,7 +90,7 @@ fn put_down(spoken: &mut Spoken, party: Party, preambles: u8, frame: &Frame)
     frame.write_body(&mut spoken.bytes);
 }
 
-/// Returns a filler for a place where no frame was put yet.
+/// Returns a placeholder for a spoken frame that is not written yet.
 fn no_spoken() -> Spoken {
     Spoken {
         party: Party::Device,

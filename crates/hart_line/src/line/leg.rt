@@ -16,7 +16,7 @@ pub struct Undetected;
 /// Returns the frame that was sent if it arrives in the leg, or `None` if no frame arrives. Returns [`Undetected`] as the error if another
 /// frame or several frames are heard.
 ///
-/// A clean leg is not searched for frames, because a message has only its own frame.
+/// A clean leg is not searched for frames, because a message contains no frame but its own.
 #[tactic(auto, using(crate::proofs::lemmas::line::Leg::message_arrives, crate::proofs::lemmas::line::Leg::nothing_arrives))]
 pub fn arrived_in<'a>(
     heard: &Heard,
@@ -50,8 +50,8 @@ pub fn arrived_among<'a>(
     }
 }
 
-/// Lets the device hear the leg `up`, in which `sent` was sent. Returns true if the device answers, with the answer in `reply`. Returns
-/// [`Undetected`] as the error if the damage of the leg is undetected.
+/// Lets the device hear the leg `up`, in which `sent` was sent. If the device answers, writes the answer to `reply` and returns true.
+/// Returns [`Undetected`] as the error if the damage of the leg is undetected.
 #[tactic(auto, using(crate::proofs::lemmas::line::Leg::nothing_reaches))]
 pub fn answer_in<S: RegisterStore>(
     device: &mut Device<S>,
@@ -75,8 +75,8 @@ pub fn answer_in<S: RegisterStore>(
     }
 }
 
-/// Lets the device hear these characters, when `sent` was sent. Returns true if the device answers, with the answer in `reply`. Returns
-/// [`Undetected`] as the error if the damage of the characters is undetected.
+/// Lets the device hear these characters, when `sent` was sent. If the device answers, writes the answer to `reply` and returns true.
+/// Returns [`Undetected`] as the error if the damage of the characters is undetected.
 #[tactic(auto, using(crate::proofs::lemmas::line::Leg::answered_among))]
 pub fn answer_among<S: RegisterStore>(
     device: &mut Device<S>,

@@ -6,10 +6,10 @@ use crate::{Filling, NoRoom, Spoken};
 
 /// Notes the frames that are spoken on a line, in whatever form.
 pub trait Log {
-    // The first log becomes the second if these frames are noted in it, in this order.
+    // The first log becomes the second when these frames are noted in it, in this order.
     ghost notes: { Self → List Spoken → Self → Type 0 };
 
-    // Noting this frame may need room for this number of items.
+    // Noting this frame may need memory for this number of items.
     ghost needs: { Spoken → ℕ → Type 0 };
 
     /// Notes a frame that was spoken.
@@ -21,13 +21,13 @@ pub trait Log {
         ensures noted { OnOk result (notes self.old (spoken.now ∷ []) self.new) }
         ensures refused { IfErr result (λ none. (0 < none.items) × needs spoken.now none.items) };
 
-    // A log stays the same if nothing is noted. To note some frames and then others is to note all of them in this order.
+    // Noting no frames leaves a log unchanged. Noting some frames and then others has the effect of noting all of them in this order.
     ghost none: { (log : Self) → notes log [] log };
 
     ghost more: { (a b c : Self) (xs ys : List Spoken) → notes a xs b → notes b ys c → notes a (xs ++ ys) c };
 }
 
-/// The log of a script whose spoken frames are all kept: a list with room for all of them, so that noting needs no memory.
+/// The log of a script whose spoken frames are all kept: a list with room for all these frames, so that noting needs no memory.
 #[derive(Drop)]
 pub(crate) struct KeptFrames {
     pub frames: Filling<Spoken>,

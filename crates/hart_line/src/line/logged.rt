@@ -19,14 +19,17 @@ use hart_device::{Device, Process, RegisterStore};
 use hart_master::Master;
 use std::alloc::Global;
 
-/// Carries out a script as [`run`](crate::run) does. After each event, notes the frames of this event in the log, and keeps none of them.
+/// Carries out a script as [`run`](crate::run) does. After each event, notes the frames of this event in the log, and then keeps none of
+/// these frames.
 ///
 /// # Errors
 ///
-/// [`LineFault::Memory`] if room was refused. Before the first event, room for an outcome of each submission may be refused. After an
-/// event, the log may have no room for a frame that was spoken in this event. [`LineFault::Undetected`] for the same leg as in
-/// [`run`](crate::run), if no room was refused before. Everything spoken before the event of this leg has then been noted. Only the
-/// fault is returned.
+/// [`LineFault::Memory`] if memory was refused. It can be refused before the first event, for an outcome of each submission. It can also be
+/// refused after an event, in the log, for a frame that was spoken in this event.
+///
+/// [`LineFault::Undetected`] for the same leg as in [`run`](crate::run), if no memory was refused before this leg. Everything that was
+/// spoken before the event of this leg has then been noted. Only the fault is returned.
+#[tactic(auto, using(std::proofs::lemmas::Grind::common_steps))]
 pub fn run_logged<S: RegisterStore + Drop, L: Log>(
     alloc: Global,
     device: Device<S>,
@@ -41,23 +44,24 @@ pub fn run_logged<S: RegisterStore + Drop, L: Log>(
     // The script has a last world. The device, the outcomes and the noted frames are those of this world.
     ensures led { let start = start_from device process.now primary secondary in IfOk result (λ ending.
         (spoken : List Spoken) × Led start events.now ending.device ending.outcomes spoken × L.notes log.old spoken log.new) }
-    // The script and what is returned keep the promises that are made of every script.
+    // The script, the returned device and the returned outcomes keep the promises that are made of every script.
     ensures promises { IfOk result (λ ending.
         KeepsPromises (start_from device process.now primary secondary) events.now ending.device ending.outcomes) }
-    // A fault has one of three reasons. A leg has undetected damage: the fault names the first such leg, and what was spoken before the
-    // event of this leg has been noted. There is no room for the outcomes: the fault has their number, and nothing has been noted. There is
-    // no room to note a spoken frame: the fault has the room that is missing.
+    // A fault has one of three reasons. First, a leg has undetected damage: the fault names the first such leg, and what was spoken before
+    // the event of this leg has been noted. Second, there is no room for the outcomes: the fault has their number, and nothing has been
+    // noted. Third, a spoken frame has no room in the log: the fault has the room that is missing.
     ensures fault { let start = start_from device process.now primary secondary in
         IfErr result (IsLoggedFault L.needs (λ spoken. L.notes log.old spoken log.new) start events.now) }
-    // A clean or lost leg never stops a script, nor does a leg in which the message sent is heard with marked or check damage.
+    // A clean or lost leg never stops a script, nor does a leg in which the message sent is heard with marked or check damage
+    // (docs/PROOFS.md).
     ensures detectable_damage_is_detected { IfErr result (IsNotDetectable (start_from device process.now primary secondary) events.now) }
 {
     let outcomes = room_for_outcomes(alloc, events)?;
     carry_out(outcomes, device, primary, secondary, events, process, log)
 }
 
-/// Carries out a script as [`run_logged`] does, in room already reserved for its outcomes. Only the log can run out of memory. If
-/// [`run`](crate::run) called [`run_logged`] in place of this function, nothing would say which of its reservations may be refused.
+/// Carries out a script as [`run_logged`] does, with memory for its outcomes already reserved, so that only the log can run out of memory.
+/// If [`run`](crate::run) called [`run_logged`] in place of this function, no contract would say which of the reservations may be refused.
 pub fn carry_out<S: RegisterStore + Drop, L: Log>(
     outcomes: Filling<Outcome>,
     device: Device<S>,

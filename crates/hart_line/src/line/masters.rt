@@ -1,10 +1,11 @@
-//! The two masters of a line. For its request in hand, each also has a place: the index of the request's outcome.
+//! The two masters of a line. Besides its request in hand, each master keeps a place: the index of the request's outcome.
 ghost use Rattle.std.specs.Prelude.{◌≡◌, ℕ, Option, None, Some, MatchOption, length};
 ghost use Rattle.std.specs.Option.{option_copied};
 ghost use Rattle.hart_line.specs.Types.{Reply, MasterId, EachMaster};
 ghost use Rattle.hart_values.specs.EachMaster.{of_master, with_master};
 ghost use Rattle.hart_commands.specs.RequestData.{IsRequest};
-ghost use Rattle.hart_line.specs.line.Masters.{AreHeld, AreInTurn, Awaits, Concludes, Holds, Submits, hand_after_turn, outcome_in_turn};
+ghost use Rattle.hart_line.specs.line.Masters.{AreHeld, AreInTurn, Awaits, Concludes, Holds, Submits, first_outcome, hand_after_turn};
+ghost use Rattle.hart_line.specs.line.Masters.{outcome_in_turn};
 ghost use Rattle.hart_line.specs.world.Spoken.{frame_if, frame_of};
 ghost use Rattle.hart_line.specs.world.Step.{Accepts, sent_by, submission_fault};
 ghost use Rattle.hart_line.specs.world.World.{InHand};
@@ -12,11 +13,11 @@ ghost use Rattle.hart_line.specs.world.World.{InHand};
 use crate::{Filling, Outcome};
 use hart_commands::Request;
 use hart_frame::{Char, Frame};
-use hart_master::{Master, MasterEvent};
+use hart_master::{Master, MasterEvent, MasterFault};
 use hart_values::{Address, MasterId};
 
-/// How many character times pass at the end of a turn: the longest reply limit. So a reply comes in its turn or never, and a shorter limit
-/// makes no difference.
+/// How many character times pass at the end of a turn: the longest reply limit. So a reply comes in its turn or never, and a shorter reply
+/// limit makes no difference.
 const TURN_TIME: u8 = 255;
 
 /// A master. If it has a request in hand, `place` is the index of the outcome of this request.
@@ -27,24 +28,28 @@ pub struct Submitter {
 }
 
 impl Submitter {
-    /// Submits a request and returns its outcome so far. The outcome will have the index `place`.
-    fn submit(&mut self, place: usize, address: Address, request: &Request) -> Outcome
+    /// Submits a request and returns the fault for which the master refuses it, if any. The outcome of the request will have the index
+    /// `place`. Not inlined, because LLVM would otherwise choose between the two masters at each field.
+    #[tactic(auto, using(crate::proofs::lemmas::line::Turn::refused_submits))]
+    #[inline(never)]
+    fn submit(&mut self, place: usize, address: Address, request: &Request) -> Option<MasterFault>
         ensures submits { (id : MasterId) (retries : ℕ) (held : Option InHand) → Holds id retries held self.old
-            → Submits held place address request.now (submission_fault held address request.now) result
+            → Submits held place address request.now (submission_fault held address request.now) (first_outcome result)
             (λ left. Holds id retries left self.new) }
         ensures well_made { IsRequest request.now }
     {
         match self.master.submit(address, request.copy()) {
             Ok(()) => {
                 self.place = place;
-                Outcome::Unfinished { sendings: 0 }
+                None
             }
-            Err(rejected) => Outcome::Refused(rejected.fault),
+            Err(rejected) => Some(rejected.fault),
         }
     }
 
     /// Sends the request in hand, if there is one, and awaits the reply. Writes the request's frame over `frame`. Returns true if a request
-    /// was sent.
+    /// was sent. Not inlined, for the same reason as `submit`.
+    #[inline(never)]
     fn send(&mut self, frame: &mut Frame) -> bool
         ensures { (id : MasterId) (retries : ℕ) (held : Option InHand) → Holds id retries held self.old
             → (frame_if result frame.new ≡ frame_of (sent_by id held)) × Awaits id retries held self.new }
@@ -82,7 +87,7 @@ impl Submitter {
         }
     }
 
-    /// Ends the turn of this master. What comes back decides the outcome of the request that the master has sent, if any.
+    /// Ends the turn of this master. The frame that comes back, if any, decides the outcome of the request that the master has sent.
     fn conclude(&mut self, returned: Option<&Frame>, outcomes: &mut Filling<Outcome>)
         ensures concludes { (id : MasterId) (retries : ℕ) (held : Option InHand) → Awaits id retries held self.old
             → Concludes id retries held (option_copied returned.entry) outcomes.old.items outcomes.new.items
@@ -107,17 +112,19 @@ pub struct Masters {
 }
 
 impl Masters {
-    /// Submits a request to a master and returns its outcome so far. The outcome will have the index `place`.
+    /// Submits a request to a master and returns the fault for which the master refuses it, if any. Its outcome will have the index
+    /// `place`.
+    #[inline(always)]
     pub fn submit(
         &mut self,
         who: MasterId,
         place: usize,
         address: Address,
         request: &Request,
-    ) -> Outcome
+    ) -> Option<MasterFault>
         ensures submits { (retries : EachMaster ℕ) (hands : EachMaster (Option InHand)) → AreHeld retries hands self.old
             → Submits (of_master who hands) place address request.now
-            (submission_fault (of_master who hands) address request.now) result
+            (submission_fault (of_master who hands) address request.now) (first_outcome result)
             (λ left. AreHeld retries (with_master who left hands) self.new) }
         ensures well_made { IsRequest request.now }
     {
@@ -129,6 +136,7 @@ impl Masters {
 
     /// Lets a master send the request in its hand, if there is one, and await the reply. Writes the request's frame over `frame`. Returns
     /// true if a request was sent.
+    #[inline(always)]
     pub fn send(&mut self, who: MasterId, frame: &mut Frame) -> bool
         ensures { (retries : EachMaster ℕ) (hands : EachMaster (Option InHand)) → AreHeld retries hands self.old
             → (frame_if result frame.new ≡ frame_of (sent_by who (of_master who hands))) × AreInTurn who retries hands self.new }
@@ -173,5 +181,15 @@ impl Masters {
         let _event = self.secondary.master.hear(chars);
         let _overheard = self.primary.hear(answer);
         let _overheard = self.secondary.hear(answer);
+    }
+}
+
+/// Returns the outcome of a submission before its request is sent: unfinished, or refused if there is a fault.
+pub fn first_outcome(fault: Option<MasterFault>) -> Outcome
+    ensures { result ≡ first_outcome fault }
+{
+    match fault {
+        None => Outcome::Unfinished { sendings: 0 },
+        Some(fault) => Outcome::Refused(fault),
     }
 }

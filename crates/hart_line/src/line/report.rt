@@ -20,7 +20,7 @@ pub enum Party {
 /// A frame that was spoken: its party, its number of preamble bytes and its body.
 #[derive(Debug, Drop, PartialEq, Eq)]
 pub struct Spoken {
-    /// Who spoke it.
+    /// Who spoke the frame.
     pub party: Party,
     /// The number of preamble bytes.
     pub preambles: u8,
@@ -65,7 +65,7 @@ pub type SpokenList = PlainList<Spoken>;
 /// What a script leads to.
 #[derive(Debug, Drop)]
 pub struct Report<S: RegisterStore> {
-    /// The device as it is at the end.
+    /// The device at the end.
     pub device: Device<S>,
     /// What became of each submission.
     pub outcomes: Outcomes,
@@ -76,7 +76,7 @@ pub struct Report<S: RegisterStore> {
 /// What a script leads to, without what was spoken.
 #[derive(Debug, Drop)]
 pub struct Ending<S: RegisterStore> {
-    /// The device as it is at the end.
+    /// The device at the end.
     pub device: Device<S>,
     /// What became of each submission.
     pub outcomes: Outcomes,

@@ -15,21 +15,21 @@ use hart_device::{Device, Process, RegisterStore};
 use hart_master::Master;
 use std::alloc::Global;
 
-/// Carries out a script: what the masters ask, and what each side hears.
+/// Carries out the events of a script, in order.
 ///
 /// In a turn the master sends the request in its hand, if there is one. The device hears the characters of the leg up, and answers. Both
 /// masters hear the characters of the leg down. If the master of the turn then still awaits a reply, this master stops waiting. The device
 /// and both masters hear noise. Both masters also hear the device's answer to noise, without damage. A restart sets both cold start bits of
 /// the device.
 ///
-/// The masters are the primary and the secondary one, with no request in hand. The device is handed the values of `process`.
+/// The masters are the primary and the secondary master, with no request in hand. The device is handed the values of `process`.
 ///
 /// # Errors
 ///
-/// [`LineFault::Memory`] if room was refused. Before the first event, room is reserved for an outcome of each submission, for two spoken
-/// frames of each turn and for one spoken frame of each noise. Otherwise [`LineFault::Undetected`] for the first leg with undetected
+/// [`LineFault::Memory`] if memory was refused. Before the first event, memory is reserved for an outcome of each submission, for two
+/// spoken frames of each turn and for one spoken frame of each noise. Otherwise [`LineFault::Undetected`] for the first leg with undetected
 /// damage: a frame was heard that was not sent in this leg, or several frames were heard. The fault has the number of the event, counted
-/// from 0. Only the fault is returned. The device is dropped then, so its store has to be `Drop`.
+/// from 0. Only the fault is returned; the device is dropped, so its store has to be `Drop`.
 pub fn run<S: RegisterStore + Drop>(
     alloc: Global,
     device: Device<S>,
@@ -43,12 +43,13 @@ pub fn run<S: RegisterStore + Drop>(
     // The script has a last world. The device, the outcomes and the spoken frames are those of this world.
     ensures led { IfOk result (λ report.
         Led (start_from device process.now primary secondary) events.now report.device report.outcomes report.spoken) }
-    // The script and what is returned keep the promises that are made of every script.
+    // The script, the returned device and the returned outcomes keep the promises that are made of every script.
     ensures promises { IfOk result (λ report.
         KeepsPromises (start_from device process.now primary secondary) events.now report.device report.outcomes) }
     // A fault names the first leg with undetected damage, or the number of outcomes or spoken frames for which there is no room.
     ensures fault { IfErr result (IsFault (start_from device process.now primary secondary) events.now) }
-    // A clean or lost leg never stops a script, nor does a leg in which the message sent is heard with marked or check damage.
+    // A clean or lost leg never stops a script, nor does a leg in which the message sent is heard with marked or check damage
+    // (docs/PROOFS.md).
     ensures detectable_damage_is_detected { IfErr result (IsNotDetectable (start_from device process.now primary secondary) events.now) }
 {
     let outcomes = room_for_outcomes(alloc, events)?;

@@ -1,28 +1,35 @@
 //! Reads the lines of a script: the event of a line, or the reason why there is none.
-ghost use Rattle.std.specs.Prelude.{◌≡◌, ◌≢◌, [], ◌∷◌, codes, length, IfErr, MatchOption, OnOk};
+ghost use Rattle.std.specs.Prelude.{◌≡◌, ◌≢◌, [], ◌∷◌, codes, length, IfErr, MatchOption, OnOk, option_and_then};
+ghost use Rattle.std.specs.Result.{result_ok};
+ghost use Rattle.hart_commands.specs.RequestData.{request_reading};
 ghost use Rattle.hart_line.specs.script.Rows.{AddsLine, IsLegWord, IsLineFault, IsNeededByLeg, IsNeededByWords, ReadsWords, Says};
 ghost use Rattle.hart_line.specs.script.Rows.{request_of};
-ghost use Rattle.hart_line.specs.script.Words.{Finds};
+ghost use Rattle.hart_line.specs.script.Words.{Finds, data_of};
 
-use crate::script::digits::Digits;
 use crate::script::items::read_items;
-use crate::script::words::{decode_data, read_address, read_command, read_who};
+use crate::script::words::{
+    LONGEST_DATA_LEN, decode_data, decode_data_by, read_address_by, read_command, read_who,
+};
 use crate::{Filling, Heard, LineEvent, LineFault, NoRoom};
 use hart_commands::Request;
-use hart_text::Words;
+use hart_text::{Digits, Words};
 use std::alloc::Global;
+
+/// The greatest number of data bytes that are read with a short buffer. No request uses more data bytes, so longer data only have ignored
+/// bytes at their end.
+const SHORT_DATA_LEN: usize = 32;
 
 /// Why no event was read from a line.
 #[derive(Clone, Copy)]
 pub enum RowFault {
-    /// The words of the line say no event.
+    /// The words of the line stand for no event.
     Bad,
     /// Memory was refused, for this number of items.
     Memory(NoRoom),
 }
 
-/// Reads the line with this number, and appends its event to `events`. An empty line and a comment add nothing. Any other line that says
-/// no event is bad. Memory may be refused for the event, or for the characters of a word of items: one for every two bytes of the word.
+/// Reads the line with this number, and appends its event to `events`. An empty line and a comment add nothing. Any other line that stands
+/// for no event is bad. Memory may be refused for the event, or for the characters of a word of items: one for every two bytes of the word.
 pub fn read_line(
     alloc: Global,
     digits: &Digits,
@@ -49,7 +56,7 @@ pub fn read_line(
     Ok(())
 }
 
-/// Reads the event that the first word of a line and the words after it say.
+/// Reads the event that a line stands for, from its first word and the words after it.
 fn read_event(
     alloc: Global,
     digits: &Digits,
@@ -59,7 +66,7 @@ fn read_event(
     ensures { ReadsWords (IsNeededByWords (first.now ∷ rest.entry)) (Says (first.now ∷ rest.entry)) result }
 {
     match first {
-        b"submit" => read_submit(rest).ok_or(RowFault::Bad),
+        b"submit" => read_submit(digits, rest).ok_or(RowFault::Bad),
         b"turn" => read_turn(alloc, digits, rest),
         b"protect" => read_protect(rest).ok_or(RowFault::Bad),
         b"noise" => read_noise(alloc, digits, rest),
@@ -69,7 +76,7 @@ fn read_event(
 }
 
 /// Reads the words after `submit`: WHO, ADDRESS, COMMAND and perhaps DATA. Returns `None` for anything else.
-fn read_submit(rest: Words<'_>) -> Option<LineEvent>
+fn read_submit(digits: &Digits, rest: Words<'_>) -> Option<LineEvent>
     ensures { Finds (Says (codes "submit" ∷ rest.entry)) result }
 {
     let (who, rest) = rest.next()?;
@@ -77,14 +84,14 @@ fn read_submit(rest: Words<'_>) -> Option<LineEvent>
     let (command, rest) = rest.next()?;
     Some(LineEvent::Submit {
         who: read_who(who)?,
-        address: read_address(address)?,
-        request: read_request(command, rest)?,
+        address: read_address_by(digits, address)?,
+        request: read_request(digits, command, rest)?,
     })
 }
 
-/// Reads COMMAND and the words after COMMAND as a request: no word means no data, and one word is DATA. Returns `None` if the words write
-/// no request.
-fn read_request(command: &[u8], rest: Words<'_>) -> Option<Request>
+/// Reads COMMAND and the words after COMMAND as a request: no word means no data, and one word is DATA. Returns `None` if the words stand
+/// for no request.
+fn read_request(digits: &Digits, command: &[u8], rest: Words<'_>) -> Option<Request>
     ensures { result ≡ request_of command.now rest.entry }
 {
     let number = read_command(command)?;
@@ -94,7 +101,21 @@ fn read_request(command: &[u8], rest: Words<'_>) -> Option<Request>
     if !rest.is_empty() {
         return None;
     }
-    let mut room = [0; 255];
+    if word.len() > 2 * SHORT_DATA_LEN {
+        return read_with_long_data(number, word);
+    }
+    let mut room = [0; SHORT_DATA_LEN];
+    let bytes = decode_data_by(digits, word, &mut room)?;
+    Request::read(number, bytes).ok()
+}
+
+/// Reads a command and DATA of any length as a request. Returns `None` if they stand for no request. A separate call, because clearing the
+/// buffer for the longest data takes more instructions than reading most requests.
+#[inline(never)]
+fn read_with_long_data(number: u8, word: &[u8]) -> Option<Request>
+    ensures { result ≡ option_and_then (λ bytes. result_ok (request_reading number bytes)) (data_of word.now) }
+{
+    let mut room = [0; LONGEST_DATA_LEN];
     let bytes = decode_data(word, &mut room)?;
     Request::read(number, bytes).ok()
 }
@@ -113,7 +134,7 @@ fn read_turn(alloc: Global, digits: &Digits, rest: Words<'_>) -> Result<LineEven
     })
 }
 
-/// Returns the three words of a line, or `None` if the line has fewer or more.
+/// Returns the three words of a line, or `None` if the line has fewer or more words.
 fn three_words<'a>(line: Words<'a>) -> Option<(&'a [u8], &'a [u8], &'a [u8])>
     ensures { MatchOption result (length line.entry ≢ 3)
         (λ words. line.entry ≡ (words.0).now ∷ (words.1).now ∷ (words.2).now ∷ []) }

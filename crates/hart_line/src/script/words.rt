@@ -1,12 +1,17 @@
 //! The words that describe a message to send. Hex digits may have either case, because tools write both; any other word has one spelling.
 
-ghost use Rattle.std.specs.Prelude.{◌≡◌, ◌≤◌, [], ◌∷◌, MatchOption};
-ghost use Rattle.hart_line.specs.script.Words.{decimal_of, device_of, polling_of, Finds, HasNoValue};
+ghost use Rattle.std.specs.Prelude.{◌≡◌, ◌≤◌, ◌<◌, ◌*◌, [], ◌∷◌, IfSome, IsTrue, MatchOption, Ok, Some, length};
+ghost use Rattle.hex.specs.Hex.{decode_of};
+ghost use Rattle.hart_line.specs.script.Words.{decimal_of, device_of, numbers_of, polling_of, Finds, HasNoValue};
 ghost use Rattle.hart_line.specs.script.Words.{IsAddressWord, IsCommandWord, IsDataWord, IsWho};
 
 use hart_frame::Payload;
+use hart_text::Digits;
 use hart_values::{Address, MasterId, PollingAddress, UniqueAddress};
 use hex::FromHex;
+
+/// The greatest number of data bytes.
+pub const LONGEST_DATA_LEN: usize = 255;
 
 /// Reads WHO: `P` for the primary master, or `S` for the secondary. Returns `None` for anything else.
 pub fn read_who(word: &[u8]) -> Option<MasterId>
@@ -32,6 +37,32 @@ pub fn read_address(word: &[u8]) -> Option<Address>
     Some(Address::Unique(read_device(word)?))
 }
 
+/// Reads ADDRESS as [`read_address`] does. Looks up the digits of a device in the table `digits`, which takes fewer instructions.
+pub fn read_address_by(digits: &Digits, word: &[u8]) -> Option<Address>
+    ensures { Finds (IsAddressWord word.now) result }
+{
+    match read_device_by(digits, word) {
+        Some(device) => Some(Address::Unique(device)),
+        None => read_address(word),
+    }
+}
+
+/// Reads the unique address of a device, written in ten hex digits, with the table `digits`. Returns `None` for any other word.
+#[inline(always)]
+fn read_device_by(digits: &Digits, word: &[u8]) -> Option<UniqueAddress>
+    ensures { IfSome result (λ device. device_of word.now ≡ Some device) }
+{
+    let [a, b, c, d, e, f, g, h, i, j] = word else {
+        return None;
+    };
+    let type_high = digits.byte_of(*a, *b)?;
+    let type_low = digits.byte_of(*c, *d)?;
+    let id_high = digits.byte_of(*e, *f)?;
+    let id_middle = digits.byte_of(*g, *h)?;
+    let id_low = digits.byte_of(*i, *j)?;
+    device_in([type_high, type_low, id_high, id_middle, id_low])
+}
+
 /// Reads a polling address up to 63, written as `@` and one or two digits. Returns `None` for any other word.
 fn read_polling_address(word: &[u8]) -> Option<PollingAddress>
     ensures { result ≡ polling_of word.now }
@@ -46,7 +77,13 @@ fn read_polling_address(word: &[u8]) -> Option<PollingAddress>
 fn read_device(word: &[u8]) -> Option<UniqueAddress>
     ensures { result ≡ device_of word.now }
 {
-    let bytes = <[u8; 5]>::from_hex(word).ok()?;
+    device_in(<[u8; 5]>::from_hex(word).ok()?)
+}
+
+/// Returns the unique address of the device with these numbers: two bytes for its type, and three for its id.
+fn device_in(bytes: [u8; 5]) -> Option<UniqueAddress>
+    ensures { result ≡ Some (numbers_of bytes) }
+{
     let [type_high, type_low, id_high, id_middle, id_low] = bytes;
     let expanded_type = u16::from_be_bytes([type_high, type_low]);
     let device_id = u32::from_be_bytes([0, id_high, id_middle, id_low]);
@@ -73,7 +110,7 @@ fn read_decimal(word: &[u8], most_digits: usize) -> Option<u8>
     }
 }
 
-/// Returns the number that three digits write, or `None` if one of them is no digit or the number is above 255.
+/// Returns the number written in three digits, or `None` if one of them is no digit or the number is above 255.
 fn number_of(hundreds: u8, tens: u8, ones: u8) -> Option<u8>
     ensures { result ≡ decimal_of 3 255 (hundreds ∷ tens ∷ ones ∷ []) }
 {
@@ -88,12 +125,17 @@ fn number_of(hundreds: u8, tens: u8, ones: u8) -> Option<u8>
 pub fn read_data(word: &[u8]) -> Option<Payload>
     ensures { Finds (IsDataWord word.now) result }
 {
-    let mut room = [0; 255];
+    let mut room = [0; LONGEST_DATA_LEN];
     Payload::from_slice(decode_data(word, &mut room)?)
 }
 
-/// Reads DATA as [`read_data`] does, but writes the bytes into `room` and returns them from there.
-pub fn decode_data<'a>(word: &[u8], room: &'a mut [u8; 255]) -> Option<&'a [u8]>
+/// Reads DATA as [`read_data`] does, but writes the bytes into `room` and returns them from there. `room` must be long enough for the word,
+/// or for the longest data.
+#[tactic(auto, using(crate::proofs::lemmas::script::Digits::data_read))]
+#[inline(always)]
+pub fn decode_data<'a>(word: &[u8], room: &'a mut [u8]) -> Option<&'a [u8]>
+    requires room { length room.old ≤ 255 }
+    requires enough { length room.old < 255 → length word.now ≤ 2 * length room.old }
     ensures { MatchOption result (HasNoValue (IsDataWord word.now)) (λ bytes. IsDataWord word.now bytes.now) }
 {
     if word.len() > 2 * room.len() {
@@ -102,4 +144,35 @@ pub fn decode_data<'a>(word: &[u8], room: &'a mut [u8; 255]) -> Option<&'a [u8]>
     let bytes = &mut room[..word.len() / 2];
     hex::decode_to_slice(word, bytes).ok()?;
     Some(bytes)
+}
+
+/// Reads DATA as [`decode_data`] does. Looks up the digits in the table `digits`, which takes fewer instructions. `room` must be long
+/// enough for the word.
+pub fn decode_data_by<'a>(digits: &Digits, word: &[u8], room: &'a mut [u8]) -> Option<&'a [u8]>
+    requires room { length room.old ≤ 255 }
+    requires enough { length word.now ≤ 2 * length room.old }
+    ensures { MatchOption result (HasNoValue (IsDataWord word.now)) (λ bytes. IsDataWord word.now bytes.now) }
+{
+    let len = word.len() / 2;
+    if word.len() != 2 * len || !decode_by(digits, word, &mut room[..len]) {
+        return decode_data(word, room);
+    }
+    Some(&room[..len])
+}
+
+/// Decodes a word of hex digits with the table `digits`. Returns false if a byte of the word is no digit; `bytes` then has unspecified
+/// values.
+#[inline(always)]
+fn decode_by(digits: &Digits, word: &[u8], bytes: &mut [u8]) -> bool
+    requires { length word.now ≡ 2 * length bytes.old }
+    ensures decoded { IsTrue result → decode_of word.now ≡ Ok bytes.new }
+    ensures len { length bytes.new ≡ length bytes.old }
+{
+    for place in 0..bytes.len() {
+        let Some(byte) = digits.byte_of(word[2 * place], word[2 * place + 1]) else {
+            return false;
+        };
+        bytes[place] = byte;
+    }
+    true
 }

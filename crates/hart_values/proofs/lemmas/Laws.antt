@@ -32,16 +32,22 @@ packed_text_and_bytes_determine_each_other-one_text text others bytes p q =
     ext_get_or 0 text others (omega (arith, p.lengths, q.lengths))
     (λ i h. grind (arith, p.groups (i / 4), q.groups (i / 4), p.lengths, q.lengths, p.characters, q.characters))
 
--- Of two first bad characters, neither can come before the other.
+-- A text has at most one place of a first bad character.
 one_first_bad : (text : List ℕ) (place other : ℕ) → IsFirstBadCharacter text place → IsFirstBadCharacter text other → place ≡ other
 one_first_bad text place other a b =
     let later = λ (below : place < other). a.bad (b.least place below) in
     let sooner = λ (below : other < place). b.bad (a.least other below) in grind (arith, later, sooner)
 
--- A text that is refused has one fault.
+-- A text is refused with at most one fault.
 pub texts_have_one_fault : (characters : ℕ) (text : List ℕ) (fault other : ValueFault)
     → IsTextFault characters text fault → IsTextFault characters text other → fault ≡ other
 texts_have_one_fault characters text fault other a b = grind (arith, one_first_bad text)
 
 pub dates_are_decided-date : (bytes : List ℕ) → ((is_date bytes ≡ true) → IsDateBytes bytes) × (IsDateBytes bytes → (is_date bytes ≡ true))
 dates_are_decided-date bytes = search rules
+
+-- Attributes in code cannot name lemmas with a dash in their names, so they name these rule sets.
+pub ruleset address_bytes_are_unambiguous = (address_bytes_are_unambiguous-one_reading, address_bytes_are_unambiguous-one_list)
+
+pub ruleset packed_text_and_bytes_determine_each_other =
+    (packed_text_and_bytes_determine_each_other-one_list, packed_text_and_bytes_determine_each_other-one_text)

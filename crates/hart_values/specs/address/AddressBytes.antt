@@ -6,12 +6,12 @@ use Rattle.hart_values.specs.declared.address.Address.{Address}
 use Rattle.hart_values.specs.declared.address.Address.TheVariants.{Polling, Unique}
 use Rattle.hart_values.specs.address.DeviceNumbers.{DeviceNumbers}
 
--- The master bit is 1 for the primary master and 0 for the secondary.
+-- The master bit as a number: 1 for the primary master and 0 for the secondary.
 abbrev pub master_bit : MasterId → ℕ
 master_bit Primary = 1
 master_bit Secondary = 0
 
--- The burst bit is 1 if it is set, and 0 otherwise.
+-- The burst bit as a number: 1 if the bit is set, and 0 if it is clear.
 abbrev pub burst_bit : Bool → ℕ
 burst_bit true = 1
 burst_bit false = 0
@@ -20,7 +20,7 @@ burst_bit false = 0
 abbrev pub first_byte : MasterId → Bool → ℕ → ℕ
 first_byte master burst six_bits = 128 * master_bit master + 64 * burst_bit burst + six_bits
 
--- Five bytes hold a unique address. The first byte has the master bit, the burst bit and bits 13 to 8 of the expanded device type; the
+-- The five bytes of a unique address. The first byte has the master bit, the burst bit and bits 13 to 8 of the expanded device type. The
 -- second byte has bits 7 to 0 of this type. The other three bytes have the device id, the most significant byte first.
 pub record IsUniqueBytes (master : MasterId) (burst : Bool) (numbers : DeviceNumbers) (bytes : List ℕ) : Type 0 where
   pub type_high : ℕ
@@ -42,7 +42,7 @@ IsAddressBytes master burst (Unique numbers) bytes = IsUniqueBytes master burst 
 abbrev pub broadcast : Address
 broadcast = Unique (record { expanded_type = 0; device_id = 0 })
 
--- The test of the broadcast address is true for this address and false for every other address.
+-- Whether an address is the broadcast address.
 abbrev pub is_broadcast : Address → Bool
 is_broadcast (Polling number) = false
 is_broadcast (Unique numbers) = (numbers.expanded_type == 0) && (numbers.device_id == 0)

@@ -1,7 +1,7 @@
 -- How contracts describe a unique address (HCF_SPEC-081).
 use Rattle.std.specs.Prelude.{ℕ}
 
--- The numbers of a device are the lower 14 bits of its expanded device type, and its device id of 24 bits.
+-- The numbers of a unique address: the lower 14 bits of the expanded device type, and the device id of 24 bits.
 pub record DeviceNumbers : Type 0 where
   pub expanded_type : ℕ
   pub device_id : ℕ

@@ -8,7 +8,7 @@ const MASTER_BIT: u8 = 0x80;
 
 const BURST_BIT: u8 = 0x40;
 
-/// Returns the first byte of an address with these six bits.
+/// Returns the first byte of an address: the master bit, the burst bit and these six bits of the address.
 pub(crate) fn join_first_byte(master: MasterId, burst: bool, six_bits: u8) -> u8
     requires { six_bits < 64 }
     ensures { result ≡ first_byte master burst six_bits }

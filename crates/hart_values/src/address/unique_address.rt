@@ -5,8 +5,8 @@ use std::marker::Model;
 
 /// The unique address of a device: its expanded device type and its device id (HCF_SPEC-081).
 ///
-/// An address has only the lower 14 bits of the expanded device type, which has 16 bits. So only these 14 bits are kept. The unique
-/// address with type 0 and device id 0 is the broadcast address.
+/// The expanded device type has 16 bits, but an address has only the lower 14, so only these 14 bits are kept. The unique address with type
+/// 0 and device id 0 is the broadcast address.
 #[derive(Clone, Copy, Debug, PartialEq, Eq, Hash)]
 pub struct UniqueAddress {
     expanded_type: u16,

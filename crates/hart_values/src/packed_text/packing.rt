@@ -28,7 +28,7 @@ pub(crate) fn first_bad_character(text: &[u8]) -> Option<usize>
     text.iter().position(|code| !is_character(*code))
 }
 
-/// Returns the character that has these six bits as its lower six bits.
+/// Returns the character of packed text that has these lower six bits.
 fn character(six_bits: u8) -> u8
     requires { six_bits < 64 }
     ensures known { IsCharacter result }
@@ -41,7 +41,8 @@ fn character(six_bits: u8) -> u8
     }
 }
 
-/// Returns the lower six bits of both characters as one number of 12 bits.
+/// Returns the lower six bits of both characters as one number of 12 bits. The six bits of `high` come first.
+#[tactic(auto, using(std::proofs::lemmas::Grind::common_steps, std::proofs::lemmas::Nat::or_shifted, std::proofs::lemmas::Nat::and_mask))]
 fn join_characters(high: u8, low: u8) -> u32
     ensures { result ≡ 64 * (high % 64) + low % 64 }
 {
@@ -49,6 +50,7 @@ fn join_characters(high: u8, low: u8) -> u32
 }
 
 /// Packs four characters into three bytes.
+#[tactic(auto, using(std::proofs::lemmas::Grind::common_steps, std::proofs::lemmas::Nat::or_shifted))]
 fn pack_group(w: u8, x: u8, y: u8, z: u8) -> [u8; 3]
     ensures { IsPackedGroup w x y z (slice_index result 0) (slice_index result 1) (slice_index result 2) }
 {
@@ -72,7 +74,7 @@ fn unpack_group(a: u8, b: u8, c: u8) -> [u8; 4]
     ]
 }
 
-/// Packs a text.
+/// Packs a text into `bytes`, which have three bytes for every four characters.
 pub(crate) fn pack(text: &[u8], bytes: &mut [u8])
     requires lengths { 3 * length text.now ≡ 4 * length bytes.old }
     requires characters { All IsCharacter text.now }
@@ -85,7 +87,7 @@ pub(crate) fn pack(text: &[u8], bytes: &mut [u8])
     }
 }
 
-/// Unpacks a text.
+/// Unpacks `bytes` into `text`, which has four characters for every three bytes.
 pub(crate) fn unpack(bytes: &[u8], text: &mut [u8])
     requires { 3 * length text.old ≡ 4 * length bytes.now }
     ensures { IsPacked text.new bytes.now }

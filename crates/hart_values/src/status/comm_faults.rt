@@ -27,7 +27,7 @@ impl CommFaults {
     /// A character came with a wrong parity bit.
     pub const VERTICAL_PARITY: u8 = 0x40;
 
-    /// A character came before the previous one had been read.
+    /// A character came before the previous character had been read.
     pub const OVERRUN: u8 = 0x20;
 
     /// A character came with a wrong stop bit.

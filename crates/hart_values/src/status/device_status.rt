@@ -15,7 +15,7 @@ impl DeviceStatus {
     /// More status can be read by Command 48.
     pub const MORE_STATUS_AVAILABLE: u8 = 0x10;
 
-    /// The loop current is held and does not follow the process.
+    /// The loop current is held at a fixed value and does not follow the process.
     pub const LOOP_CURRENT_FIXED: u8 = 0x08;
 
     /// The loop current has reached its upper or lower limit and goes no further.

@@ -74,8 +74,8 @@ impl ResponseCode {
     }
 }
 
-// The prover checks that each name has the number given here. No clause can say this, because a constant of a type with a model cannot
-// stand in a clause.
+// The prover checks that each name has the number given here. No clause can say this, because a clause cannot name a constant whose type
+// implements `Model`.
 const _: () = prove!(ResponseCode::SUCCESS.value == 0);
 
 const _: () = prove!(ResponseCode::INVALID_SELECTION.value == 2);

@@ -48,8 +48,8 @@ two_there (suc (suc (suc left))) zero head bytes rest one other is = absurd (oth
 two_there zero (suc place) head bytes rest one other is = inl (omega arith)
 two_there (suc left) (suc place) head bytes rest one other is = grind (arith, two_there left place head bytes rest one other is)
 
--- A frame that is heard either starts at the delimiter or stands after the delimiter. If it starts there, its body is a prefix of the body
--- that was sent.
+-- A frame that is heard either starts at the delimiter or stands after the delimiter. If it starts at the delimiter, its body is a prefix
+-- of the body that was sent.
 pub stood : (left : ℕ) (body : List ℕ) (chars : List Character) (found : Found) (from : ℕ) → delimiter_in body ≢ 255
     → AllZip IsHeardOrMarked (replicate left 255 ++ body) chars → (stands : StandsIn found chars from)
     → (rest : List ℕ) × ((left < length stands.prefix) ⊎ ((length stands.prefix + 2 ≡ left) × (body ≡ stands.body ++ rest)))
@@ -99,7 +99,7 @@ AreFrames-marked frame preambles chars damage =
     (λ other stands. marked_own frame preambles chars damage other 0 stands) (omega arith) found.0 found.1
 
 -- CHECK DAMAGE
--- With check damage no frame is heard, since the body of such a frame would be all the bytes, and their parity is not even.
+-- With check damage no frame is heard: its body would be all bytes from the delimiter on, and their parity is not even.
 pub AreFrames-check : (frame : FrameParts) (preambles : ℕ) (chars : List Character) → IsCheckDamage frame preambles chars
     → AreFrames chars 0 []
 AreFrames-check frame preambles chars damage =
@@ -137,3 +137,6 @@ AreFrames-message f preambles bytes two message =
 
 pub AreFrames-nothing : AreFrames [] 0 []
 AreFrames-nothing = AreFrames.none 0 (HasNoFrame-end [] 0 (omega arith))
+
+-- An attribute in code cannot name lemmas with a dash in their names, so it names this rule set.
+pub ruleset messages_alone = (AreFrames-message, AreFrames-nothing)

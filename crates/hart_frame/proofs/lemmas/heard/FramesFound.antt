@@ -90,7 +90,7 @@ frame_decided chars start =
       ]
     ]
 
--- The frames from `to` on are also those from `from` on, if each frame that stands from `from` on stands from `to` on.
+-- If each frame that stands from `from` on also stands from `to` on, the frames from `to` on are those from `from` on.
 pub AreFrames-earlier : (chars : List Character) (from to : ℕ) (frames : List Found) → from ≤ to
     → ((found : Found) → StandsIn found chars from → StandsIn found chars to) → AreFrames chars to frames → AreFrames chars from frames
 AreFrames-earlier chars from to frames before skip (none n empty) = AreFrames.none from (λ found stands. empty found (skip found stands))

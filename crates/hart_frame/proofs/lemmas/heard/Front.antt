@@ -1,7 +1,8 @@
 -- The bytes of characters, up to the first character with fault bits.
 use Rattle.hart_frame.proofs.Common.{◌≡◌, ◌≢◌, ℕ, ◌+◌, ◌<◌, ◌≤◌, List, [], ◌∷◌, ◌++◌, length, take, drop, get_or, Some, refl, arith, ◌==◌}
 use Rattle.hart_frame.proofs.Common.{append_assoc, length-append, nat_tests, common_steps, get_or_append_left, get_or-map, drop_more, All}
-use Rattle.hart_frame.proofs.Common.{length-map, length-take, map-append, take-append-le, take-map, All-drop, All-from_get_or, All-take}
+use Rattle.hart_frame.proofs.Common.{get_or-take, length-map, length-take, map-append, take-append-le, take-map, All-drop}
+use Rattle.hart_frame.proofs.Common.{All-from_get_or, All-take}
 use Rattle.hart_frame.proofs.Common.{slice_get, Character, faultless, faultless_bytes, IsOfBytes, bytes_of, sym, ap, ◌∙◌}
 use Rattle.std.proofs.lemmas.List.{take_min}
 use Rattle.std.proofs.lemmas.List.Sums.{take_while-cons}
@@ -44,7 +45,7 @@ pub Front-more : (heard : List Character) (count : ℕ) (bytes : List ℕ) (c : 
     → c ≡ get_or heard count c → c.faults ≡ 0 → Front heard count bytes → Front heard (count + 1) (bytes ++ c.byte ∷ [])
 Front-more heard count bytes c within is good front = grind (arith, drop_more, faultless_bytes-more, append_assoc, length-append)
 
--- What is heard is the run of faultless bytes at its front, as characters, and then the other characters.
+-- What is heard consists of the faultless bytes at its front, as characters, followed by the other characters.
 pub heard_parts : (heard : List Character)
     → heard ≡ faultless (faultless_bytes heard) ++ drop (length (faultless_bytes heard)) heard
 heard_parts [] = refl
@@ -88,3 +89,6 @@ length-front heard most bytes is = grind (arith, length-take, length-faultless_b
 pub front_heard : (heard : List Character) (most : ℕ)
     → faultless (take most (faultless_bytes heard)) ≡ take (length (take most (faultless_bytes heard))) heard
 front_heard heard most = grind (arith, common_steps, length-take, take_min, take_heard)
+
+-- An attribute in code cannot name lemmas with a dash in their names, so it names this rule set.
+pub ruleset longer_front = (Front-more, length-take, get_or-take)

@@ -1,4 +1,4 @@
--- Where a body may start, a frame stands or there is a miss, and when the miss is put right a frame stands there.
+-- Where a body may start, a frame stands or there is a miss. If what the miss names is put right, a frame stands there.
 use Rattle.hart_frame.proofs.Common.{◌≡◌, ◌≢◌, ℕ, fold, bit_xor, ◌+◌, ◌-◌, ◌<◌, ◌⊎◌, List, [], ◌∷◌, ◌++◌, length, take, drop, get_or, true}
 use Rattle.hart_frame.proofs.Common.{ap, inl, inr, sym, ◌∙◌, None, Option, Some, refl, arith, append_assoc, length-append, ◌↔◌, nat_tests}
 use Rattle.hart_frame.proofs.Common.{common_steps, drop_all, length-drop, take_at, append-nil, drop_more, length-take-le, map-append, All}
@@ -55,7 +55,7 @@ pub one_alone : (start : ℕ) (chars : List Character) → All (λ c. c.byte < 2
     → (miss_of chars start ≡ Some OnePreamble) ↔ (FollowsOnePreamble chars start × HasBodyAt chars start)
 one_alone start chars fit = (one_stands start chars (of_chars chars start fit), λ both. one_told start chars both.0 both.1)
 
--- A miss that is found is a miss of the place, and each miss of the place is found.
+-- A miss that `miss_of` finds is a miss of the place, and each miss of the place is found.
 found_is : (start : ℕ) (chars : List Character) (miss : Miss) → IsOfBytes (drop start chars) → miss_of chars start ≡ Some miss
     → IsMiss chars start miss
 found_is start chars miss fit told =

@@ -90,3 +90,6 @@ whole_is_no_fault start chars miss f len fit told begins =
     let (is, way) = way_of start chars miss (λ place byte fits same. fit) told (λ same. cc) in
     let (fault, same, refused) = miss_is_fault start chars miss fit is told in
     absurd (not_refused (faultless_bytes (drop start chars)) f len fault begins refused)
+
+-- An attribute in code cannot name lemmas with a dash in their names, so it names this rule set.
+pub ruleset character_at = (slice_get-get_or)

@@ -1,4 +1,4 @@
--- How the miss of a place depends on what stands right before the place. Where a frame stands there is no miss.
+-- How the miss of a place depends on what stands right before the place. Where a frame stands, there is no miss.
 use Rattle.hart_frame.proofs.Common.{refl, ◌≡◌, ◌≢◌, ℕ, zero, suc, ◌<◌, ◌⊎◌, inl, inr, List, [], ◌∷◌, ◌++◌, length, take, drop, true, false}
 use Rattle.hart_frame.proofs.Common.{None, Some, append_assoc, arith, length-append, take-append_seam, common_steps, get_or-take, is_some}
 use Rattle.hart_frame.proofs.Common.{length-take-le, take-append-drop, Miss, OnePreamble, Character, faultless_bytes, HasBodyAt, HasFrameAt}
@@ -48,13 +48,13 @@ no_second chars prefix rest k split place alone = grind (arith, common_steps, te
 pub one_preamble-yes : (chars : List Character) (place : ℕ) → FollowsOnePreamble chars place → follows_one_preamble chars place ≡ true
 one_preamble-yes chars place is = grind (arith, common_steps, tested, no_second, length-append, append_assoc, get_or-append_seam)
 
--- Where a whole body stands, nothing is missed.
+-- Where a whole body stands, `body_miss` gives no miss.
 pub none_of : (chars : List Character) (start : ℕ) → HasBodyAt chars start → body_miss start (drop start chars) ≡ None
 none_of chars start has =
     let begins = begins_at chars start has in
     grind (arith, says (faultless_bytes (drop start chars)) has.frame (length has.body) begins, odd)
 
--- Where a frame stands there is no miss.
+-- Where a frame stands, there is no miss.
 pub no_miss : (place : ℕ) (chars : List Character) → HasFrameAt chars place → miss_of chars place ≡ None
 no_miss place chars (found, stands, at) =
     let none = none_of chars found.start (body_of chars found 0 stands) in

@@ -5,12 +5,12 @@ use Rattle.hart_frame.proofs.Common.{drop_at, length-take-le, Found, Character, 
 use Rattle.hart_frame.proofs.lemmas.heard.FramesFound.{AreFrames-found, AreFrames-one}
 use Rattle.hart_frame.proofs.lemmas.heard.Place.{HasNoFrame-end}
 
--- A frame that stands in the rest from some place on stands, moved, in the whole list.
+-- If a frame stands in the rest from some place on, the moved frame stands in the whole list.
 stands_moved : (before rest : List Character) (found : Found) (n from : ℕ) → length before ≡ n → StandsIn found rest from
     → StandsIn (moved n found) (before ++ rest) (n + from)
 stands_moved before rest found n from long stands = grind (arith, append_assoc, length-append before stands.prefix)
 
--- A frame that stands after some characters stands, moved back, in the list without them.
+-- If a frame stands after some characters, the frame moved back stands in the list without them.
 pub stands_back : (before rest : List Character) (found : Found) (n from : ℕ) → length before ≡ n
     → StandsIn found (before ++ rest) (n + from)
     → StandsIn (record { start = found.start - n; stop = found.stop - n; frame = found.frame }) rest from

@@ -24,7 +24,8 @@ range_parts : (a n m : ℕ) → range_with_len a (n + m) ≡ range_with_len a n 
 range_parts a zero m = grind arith
 range_parts a (suc n) m = let long : suc n + m ≡ suc (n + m) = omega arith in rw long (grind (arith, range_parts (a + 1) n m))
 
--- If what is seen at each place is the same from `from` on as from `to` on, what is seen at a row of places is the same too.
+-- If the miss seen at each place from `to` on does not depend on whether characters count from `from` on or from `to` on, neither do the
+-- misses at a row of such places.
 same_places : (chars : List Character) (from to a k : ℕ) → to ≤ a
     → ((place : ℕ) → to ≤ place → missed_at chars from place ≡ missed_at chars to place)
     → flat_map (λ p. missed_at chars from p) (range_with_len a k) ≡ flat_map (λ p. missed_at chars to p) (range_with_len a k)

@@ -48,7 +48,8 @@ sightings_moved chars n from (found ∷ later) =
 pub body_moved : (n start : ℕ) (heard : List Character) → option_map (miss_in_whole n) (body_miss start heard) ≡ body_miss (n + start) heard
 body_moved n start heard = grind (arith, nat_tests)
 
--- Whether a faultless FF stands at a place. `follows_from`: whether the place lies after `from` and a faultless FF stands right before it.
+-- `is_preamble_at`: whether a faultless FF stands at a place. `follows_from`: whether the place lies after `from` and a faultless FF stands
+-- right before it.
 abbrev pub is_preamble_at : List Character → ℕ → Bool
 is_preamble_at chars place = option_map_or is_preamble (slice_get chars place) false
 

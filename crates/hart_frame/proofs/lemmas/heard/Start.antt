@@ -33,8 +33,8 @@ is_start_from chars place d at =
     let long = length-take-le k chars (omega (arith, at.within)) in
     grind (arith, at.after_two, at.other)
 
--- At a place stands a faultless FF, another character, or nothing. The tests for FF and for another character tell which of the three it
--- is.
+-- The character at a place is a faultless FF, another character, or absent. Two tests, for FF and for another character, tell which of the
+-- three it is.
 pub tested : (chars : List Character) (k : ℕ)
     → ((option_map_or is_preamble (slice_get chars k) false ≡ true) × (k < length chars) × (get_or chars k preamble ≡ preamble)
     × (option_map_or (λ (c : Character). not (is_preamble c)) (slice_get chars k) false ≡ false))

@@ -3,7 +3,8 @@ use Rattle.hart_frame.proofs.Common.{◌≡◌, true, false, List, ◌++◌, len
 use Rattle.hart_frame.proofs.Common.{◌≢◌, ◌+◌, ◌-◌, ◌<◌, ◌≤◌, ◌⊎◌, [], ◌∷◌, drop, ◌∙◌, sym, refl, None, ◌==◌, ◌&&◌, ◌||◌, More}
 use Rattle.hart_frame.proofs.Common.{ℕ, length-append, length-drop, take-append-le, MayStandAlone, stands_alone, HasCheckByte, common_steps}
 use Rattle.hart_frame.proofs.Common.{nat_tests, Character, faultless, check_miss, miss_in, MayFollow, body_length, IsTruncated, HasBodyMiss}
-use Rattle.hart_frame.proofs.Common.{append-nil, get_or_append_left, take-append-add, faultless_bytes, has_two_preambles, two_begin_in_body}
+use Rattle.hart_frame.proofs.Common.{append-nil, drop_all, drop_more, get_or_append_left, take-append-add, faultless_bytes}
+use Rattle.hart_frame.proofs.Common.{has_two_preambles, two_begin_in_body}
 use Rattle.std.proofs.Common.{min}
 use Rattle.hart_frame.proofs.lemmas.heard.Place.{preamble}
 use Rattle.hart_frame.proofs.lemmas.heard.Front.{faultless_bytes-end}
@@ -61,7 +62,7 @@ pub two_in : (bytes : List ℕ) (next : List Character) (start n : ℕ) → star
     → two_begin_in_body (faultless bytes ++ next) start ≡ has_two_preambles (take (n + 1) (drop start bytes ++ faultless_bytes next))
 two_in bytes next start n within long whole = grind (arith, nat_tests, bytes_from-heard, length_more)
 
--- A faultless byte follows only if more may come.
+-- A faultless byte follows only if more characters may come.
 more_of : (after : After) (next : List Character) → MayFollow after next → 0 < length (faultless_bytes next) → after ≡ More
 more_of after next follows some = grind (arith, common_steps, faultless_bytes-end)
 
@@ -124,3 +125,5 @@ may_moved bytes others start other within inside same may =
     let moved = λ (more : List Character). alone_moved others more other inside
     ∙ rw same at (sym (alone_moved bytes more start within)) in
     grind (arith, moved)
+
+pub ruleset two_preambles = (two_none, two_step, drop_all, drop_more)

@@ -1,4 +1,4 @@
--- What a buffer holds after it let bytes go or kept some, and when it waits.
+-- What a buffer holds after it dropped some bytes or kept some, and when it waits.
 use Rattle.hart_frame.proofs.Common.{◌≡◌, ℕ, ◌+◌, ◌-◌, ◌≤◌, true, IsTrue, List, [], ◌++◌, length, take, drop, None, sym, refl, arith, Scan}
 use Rattle.hart_frame.proofs.Common.{append_assoc, length-append, common_steps, append-nil, drop-append-le, drop-drop, drop-map, length-map}
 use Rattle.hart_frame.proofs.Common.{Buffer, Drained, SearchResult, faultless, IsUndecided, IsSound, IsWaiting, held_bytes, scan_of}
@@ -12,7 +12,7 @@ use Rattle.hart_frame.proofs.lemmas.scan.Scan.{moves_none, moves_past}
 use Rattle.hart_frame.proofs.lemmas.scan.Search.{take_both}
 use Rattle.hart_frame.proofs.lemmas.wire.Lane.{drop_take}
 
--- A buffer after it let its first `count` held bytes go.
+-- A buffer after it dropped its first `count` held bytes.
 abbrev pub passed : Buffer → ℕ → Buffer
 passed b count = record b { from = b.from + count; first = b.first + count; state = Busy }
 
@@ -32,7 +32,7 @@ moves_passed b found state is =
 pub held_clear : (b : Buffer) → b.damaged ≡ None → (scan_of b).held ≡ faultless (held_bytes b)
 held_clear b clear = grind (arith, append-nil)
 
--- Nothing is decided in what a waiting buffer holds.
+-- What a waiting buffer holds decides no frame.
 pub undecided_waiting : (b : Buffer) → IsWaiting b → IsUndecided (scan_of b).held
 undecided_waiting b waiting = search (arith, held_clear, undecided_open)
 
@@ -63,3 +63,6 @@ drained_is state is = grind arith
 -- A sound buffer that is drained waits.
 pub waits_drained : (b : Buffer) → IsSound b → b.state ≡ Drained → IsWaiting b
 waits_drained b sound is = grind arith
+
+-- The lemmas for the proof of `Buffer::peek`.
+pub ruleset peeking = (waits, waits_drained, moves_none)

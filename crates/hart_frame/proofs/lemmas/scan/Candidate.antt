@@ -48,7 +48,7 @@ nothing_open xs tail (inr (inr (after, two, truncated))) ends f body rest is sam
     grind (arith, append-nil, faultless_bytes-append after tail, faultless_bytes-append body rest, faultless_bytes-end) in
     grind (arith, not_refused after f (length body) Truncated, BeginsWithBody-append f body (faultless_bytes rest) is)
 
--- Nothing is decided in bytes that may begin a frame.
+-- Bytes that may begin a frame decide no frame.
 pub undecided_open : (xs : List ℕ) → MayBegin xs → IsUndecided (faultless xs)
 undecided_open (x ∷ y ∷ after) may =
     let xs = x ∷ y ∷ after in
@@ -104,7 +104,7 @@ module _ (xs : List ℕ) (long : 2 ≤ length xs) (first : get_or xs 0 0 ≡ 255
             truncated_check ys fewer has.0 (omega (arith, below, same)) (omega (arith, below, is.0)))),
       )
 
-  -- If the bytes after them begin as a prefix says, the list begins as that prefix says of a candidate.
+  -- If the bytes after these two begin as a prefix says, the list begins as the candidate of that prefix says.
   pub candidate_is : (p : Prefix) → IsPrefix (drop 2 xs) p → IsCandidate xs (candidate_of p)
   candidate_is (prefix.Whole layout) is = after_whole layout (rw (← take_rest xs 2) at is)
   candidate_is (prefix.Cut missing) is = inr (inr (drop 2 xs, two, cut_truncated (drop 2 xs) missing is))

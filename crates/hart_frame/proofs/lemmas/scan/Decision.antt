@@ -60,7 +60,7 @@ holds_frame b layout whole =
     let (frame, is) = frame_of_whole layout whole.body whole.whole in
     (_, stands_at (scan_of b).held 0 frame whole.body _ (omega arith) (held_whole b layout whole) is, refl)
 
--- A buffer gives nothing if it gives nothing after it lets go of the bytes before the found place.
+-- A buffer gives nothing if it gives nothing after it drops the bytes before the found place.
 pub given_nothing : (b mid : Buffer) (found : SearchResult) (new : Scan) → IsHeldSearched b found → mid ≡ passed b found.place
     → GivesNothing (scan_of mid) new → GivesNothing (scan_of b) new
 given_nothing b mid found new is same after = grind (arith, gives_nothing_then, moves_passed b found Busy)

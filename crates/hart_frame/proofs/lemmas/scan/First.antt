@@ -49,7 +49,7 @@ last_none : (chars : List Character) (waiting new : Scan) → MovesPast (hearing
 last_none chars waiting new moves (inl waits) = absurd (grind arith)
 last_none chars waiting new moves (inr ends) = nothing_before (hearing new_scan chars) waiting moves ends.none
 
--- If it gives a frame, this frame is the first of the list's frames.
+-- If a scanner that heard a whole list is finished and gives a frame, this frame is the first of the list's frames.
 last_frames : (chars : List Character) (waiting new : Scan) (found : Found) → MovesPast (hearing new_scan chars) waiting []
     → Gives (finishing waiting) new found → (later : List Found) × AreFrames chars 0 (found ∷ later)
 last_frames chars waiting new found moves gives =
@@ -70,7 +70,7 @@ pub scanned_first : (chars : List Character) (count : ℕ) (start mid new : Scan
 scanned_first chars count start mid new found is_new moves gives =
     first_in chars found (given_frames chars count start mid new found is_new moves gives)
 
--- If a new scanner gives nothing after it hears a list, it gives the first frame after the finish, unless the list has none.
+-- If a new scanner gives nothing after it hears a list, it gives the first frame of the list once it is finished, unless the list has none.
 pub scanned_last : (chars : List Character) (count : ℕ) (start mid waiting old new : Scan) (given : Option Found) → start ≡ new_scan
     → MovesPast (hearing start (take count chars)) mid [] → StopsAt mid count (length chars) → GivesNothing mid waiting
     → old ≡ finishing waiting → MatchOption given (GivesNothing old new) (Gives old new)
@@ -122,7 +122,7 @@ first_given chars count old mid new span is_new hears given =
     holds_first chars mid new span given (λ found gives.
     scanned_first chars count (scan_of old) (scan_of mid) (scan_of new) found is_new hears.moves gives)
 
--- If a new scanner gives nothing after it hears a list, it holds the first frame after the finish, unless the list has none.
+-- If a new scanner gives nothing after it hears a list, it holds the first frame of the list once it is finished, unless the list has none.
 pub first_finished : (chars : List Character) (count : ℕ) (start mid waiting old new : Buffer) (given : Option Span)
     → scan_of start ≡ new_scan → Hears (scan_of start) (scan_of mid) chars count
     → GivesNothing (scan_of mid) (scan_of waiting) → scan_of old ≡ finishing (scan_of waiting)

@@ -132,12 +132,12 @@ next_to bytes ended from to order within never =
     next_none (faultless bytes) ended from to order (rw length-map within)
     (λ place since below more closed. rw drop-map (never place since below more (λ over. inl (closed over))))
 
--- Where bytes begin with a frame by a layout, the bytes after its two preamble bytes are its body.
+-- If the bytes from a place on begin with a frame, the body of this frame comes right after two preamble bytes.
 pub body_at_place : (bytes : List ℕ) (place len : ℕ) (layout : Layout) (whole : IsWhole layout (drop place bytes))
     → len ≡ layout_length layout → slice_range bytes (place + 2) (place + 2 + len) ≡ whole.body
 body_at_place bytes place len layout whole same = grind (arith, drop-drop 2 place bytes, take_at)
 
--- A frame with which the bytes from a place on begin ends within these bytes.
+-- If the bytes from a place on begin with a frame, this frame ends within these bytes.
 pub ends_within : (bytes : List ℕ) (place : ℕ) (layout : Layout) → IsWhole layout (drop place bytes)
     → place + 2 + layout_length layout ≤ length bytes
 ends_within bytes place layout whole =

@@ -29,7 +29,7 @@ heard_is bytes More more valid closed = (more, tt, refl)
 heard_is bytes (Damaged c) more valid closed = (c ∷ more, (valid, more, refl), append_assoc (faultless bytes) (c ∷ []) more)
 heard_is bytes End more valid closed = (more, closed refl, refl)
 
--- If a list passes to `to` whatever follows, what is seen from `from` on is `given` and then what is seen from `to` on.
+-- If a list passes from `from` to `to` whatever follows, `given` is seen first, and then what is seen from `to` on.
 pub sees : (bytes : List ℕ) (after : After) (from to : ℕ) (given : List Seen) → AfterIsValid after
     → Whatever bytes after (λ chars. Passes chars from to given) → SeesOn (heard_with bytes after) (is_end after) from given to
 sees bytes after from to given valid passes more later closed are =
@@ -178,7 +178,7 @@ pub message_two : (bytes : List ℕ) (after : After) (from start : ℕ) (layout 
     → IsStandingAt bytes after from start (standing.Message layout) → FollowsTwo bytes from start
 message_two bytes after from start layout is = grind arith
 
--- Where something is open, fewer than 269 characters are left from `used` on.
+-- If the place `start` is open, fewer than 269 characters are left from `used` on.
 pub open_few : (bytes : List ℕ) (after : After) (place from start used : ℕ) → ((i : ℕ) → get_or bytes i 0 < 256)
     → IsAsked bytes after place start
     → IsStandingAt bytes after from start (Open used) → length (heard_with bytes after) < used + 269

@@ -11,13 +11,13 @@ use Rattle.std.specs.Simd.Lanes.{mask_l, top, zip2}
 use lib.Count.{count_trailing_zeros}
 use Rattle.hart_frame.specs.private.Search.{IsNextPair}
 
--- The bytes from place `i` on are those at so many places from `p` on, each moved on as `p` is to `i`.
+-- If `n` bytes are read from place `p` on, and again from a place `d` later on, each byte stands `d` places later.
 bytes_at : (bs : List ℕ) (p d i n : ℕ) → i ≡ p + d → i + n ≤ length bs
     → take n (drop i bs) ≡ map (λ (k : ℕ). get_or bs (k + d) 0) (range_with_len p n)
 bytes_at bs p d i zero is within = refl
 bytes_at bs p d i (suc n) is within = grind (arith, drop_more bs i 0, bytes_at bs (p + 1) d (i + 1) n)
 
--- The top bit is set in what three lanes have in common exactly if each of them is all ones.
+-- The top bit of the common bits of three lanes is set exactly if each of the three lanes is all ones.
 common : (a b c : Bool) → top 7 (bit_and (bit_and (cond a 255 0) (cond b 255 0)) (cond (not c) 255 0)) ≡ (a && (b && not c))
 common a b c = grind (arith, nat_tests)
 
@@ -26,7 +26,7 @@ passes_some : (test : ℕ → Bool) (xs : List ℕ) → 0 < mask_l (map test xs)
 passes_some test [] some = absurd (omega arith)
 passes_some test (x ∷ xs) some = grind (arith, nat_tests, passes_some test xs)
 
--- A lane is all ones if two bytes are equal, and 0 if they differ, and the other way round.
+-- `equal`: a lane that is all ones if two bytes are equal, and 0 if they differ. `differ` is the reverse.
 abbrev equal : ℕ → ℕ → ℕ
 equal a b = cond (eqb a b) 255 0
 
@@ -41,7 +41,7 @@ module _ (bs : List ℕ) (place : ℕ) (room : place + 18 ≤ length bs) where
   sixteen : length places ≡ 16
   sixteen = length-range_with_len place 16
 
-  -- The byte that stands so far after a place.
+  -- The byte at a distance from a place.
   abbrev byte : ℕ → ℕ → ℕ
   byte d k = get_or bs (k + d) 0
 
@@ -101,11 +101,11 @@ module _ (bs : List ℕ) (place : ℕ) (room : place + 18 ≤ length bs) where
       (not-true _ (prefix_len_passes (λ k. not (hits k)) places (k - place) 0 (omega arith))) in
       grind (arith, nat_tests, hits_is k)
 
-  -- If no lane has all three, no pair stands at these places.
+  -- If no bit of the mask is set, no pair stands at these places.
   pub no_pair_in_lanes : mask ≡ 0 → HasNoPair bs place (place + 16)
   no_pair_in_lanes none k after below = grind (arith, nat_tests, leading_from_mask_l, mask_is, passed, sixteen)
 
-  -- The lowest lane that has all three is that of the next pair.
+  -- The lowest set bit of the mask is that of the next pair.
   pub pair_in_lanes : 0 < mask → IsNextPair bs place (place + count_trailing_zeros 64 mask)
   pair_in_lanes some =
       let found : 0 < mask_l (map hits places) = omega (arith, mask_is) in

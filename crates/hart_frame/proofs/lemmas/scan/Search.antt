@@ -61,7 +61,7 @@ passed_never xs here within (inr (inr (inside, first, second, third))) =
 pub passed_here : (xs : List ℕ) (here : ℕ) → here + 3 ≤ length xs → (HasPair xs here → ⊥) → IsPassed xs here
 passed_here xs here inside none = grind arith
 
--- If no pair stands from a place on, the places before the last FF, of which at most two count, are passed.
+-- If no pair stands from a place on, all places before the last FF are passed. At most two FF at the end count as last.
 pub passed_to_end : (xs : List ℕ) (place count : ℕ) → place ≤ length xs → HasNoPair xs place (length xs)
     → (count < 2 → count < length (drop place xs) → get_or (drop place xs) (length (drop place xs) - count - 1) 0 ≢ 255)
     → (here : ℕ) → place ≤ here → here < length xs - count → IsPassed xs here
@@ -73,13 +73,13 @@ passed_to_end xs place count within none other here after before =
 pub may_begin_last : (xs : List ℕ) (count : ℕ) → count ≤ 2 → xs ≡ replicate count 255 → MayBegin xs
 may_begin_last xs count few is = let cases : (count ≡ 0) ⊎ (count ≡ 1) ⊎ (count ≡ 2) = grind arith in grind arith
 
--- The next pair after places without one is the next pair from the first of these places on.
+-- If no pair stands at some places, the next pair after them is the next pair from the first of them on.
 pub pair_after : (xs : List ℕ) (from place : ℕ) (result : Option ℕ) → from ≤ place → HasNoPair xs from place
     → MatchOption result (HasNoPair xs place (length xs)) (IsNextPair xs place)
     → MatchOption result (HasNoPair xs from (length xs)) (IsNextPair xs from)
 pair_after xs from place result order none rest = grind (arith, none, rest)
 
--- So is the next pair from the sixteenth last place with three bytes on, even if some places from there on were passed.
+-- The same holds near the end, where sixteen places are looked at together, even if the search has passed some of them.
 pub pair_at_end : (xs : List ℕ) (from place last : ℕ) (result : Option ℕ) → from ≤ last → last ≤ place → last + 18 ≡ length xs
     → HasNoPair xs from place → MatchOption result (HasNoPair xs last (last + 16)) (IsNextPair xs last)
     → MatchOption result (HasNoPair xs from (length xs)) (IsNextPair xs from)
@@ -176,7 +176,7 @@ module _ (xs : List ℕ) (from seen : ℕ) where
       (omega (arith, on.within)) in
       grind arith
 
-  -- If no pair stands from the place of a search on, it ends before the last FF, of which at most two count.
+  -- If no pair stands from the place of a search on, the search ends before the last FF. At most two FF at the end count as last.
   pub searched_no_pair : (place decided count : ℕ) → IsSearching xs from seen place decided → HasNoPair xs place (length xs) → count ≤ 2
       → count ≤ length (drop place xs) → drop (length (drop place xs) - count) (drop place xs) ≡ replicate count 255
       → (count < 2 → count < length (drop place xs) → get_or (drop place xs) (length (drop place xs) - count - 1) 0 ≢ 255)

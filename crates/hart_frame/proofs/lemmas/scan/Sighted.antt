@@ -25,7 +25,7 @@ pub record Known (bytes : List ℕ) (after : After) (next : List Character) : Ty
 pub known : (bytes : List ℕ) (after : After) (next : List Character) → MayFollow after next → Known bytes after next
 known bytes after next follows = grind (arith, nat_tests, length-append, length-map, tested, get_or_at)
 
--- Among the known characters a faultless FF is heard exactly where a byte FF stands.
+-- Among the known characters, a faultless FF is heard exactly where a byte FF stands.
 pub preamble_yes : (bytes : List ℕ) (next : List Character) (i : ℕ) → i < length bytes → get_or bytes i 0 ≡ 255
     → is_preamble_at (faultless bytes ++ next) i ≡ true
 preamble_yes bytes next i below is = grind (arith, nat_tests, chars_at, length-append, length-map, tested)

@@ -54,7 +54,7 @@ pub history_first : (past more : List Character) (scan : Scan) (given frames : L
 history_first past more scan given frames history ended are =
     grind (arith, AreFrames-found (past ++ more) scan.first, AreFrames-one, history_next past scan given history)
 
--- The number of characters that were let go and the number that are held add up to the number that were pushed.
+-- The numbers of dropped and of held characters add up to the number of pushed characters.
 pub history_length : (past : List Character) (scan : Scan) (given : List Found) → IsHistory past scan given
     → scan.first + length scan.held ≡ length past
 history_length past scan given history = grind (arith, streamed past scan given history, length-drop)

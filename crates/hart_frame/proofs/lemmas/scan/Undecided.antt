@@ -16,7 +16,7 @@ same_first chars from to [] found (none n empty) new stands = absurd (empty foun
 same_first chars from to (g ∷ later) found old new stands =
     (g, (head_first chars to g later new).stands, (head_first chars from g later old).least found stands)
 
--- What was held is the characters that were passed, and then what is held now.
+-- What was held consists of the characters that were passed, followed by what is held now.
 held_parts : (s t : Scan) → (moves : MovesPast s t []) → s.held ≡ take moves.count s.held ++ t.held
 held_parts s t moves = rw moves.held (sym (take-append-drop moves.count s.held))
 

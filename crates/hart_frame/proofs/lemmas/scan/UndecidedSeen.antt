@@ -112,14 +112,14 @@ undecided_few bytes few preambles first always =
     let none = always [] [] are in
     cc (none.1)
 
--- No sighting is decided in what is left after the bytes are used up.
+-- The bytes that are not used up decide no sighting.
 pub undecided_used : (bytes : List ℕ) (from used : ℕ) → IsUsed bytes from used → IsUndecidedSighting (faultless (drop used bytes))
 undecided_used bytes from used (low, cases) =
     let long = length-drop used bytes in
     undecided_few (drop used bytes) (omega (arith, long, cases)) (λ i below.
     let here : (i ≡ 0) ⊎ (i ≡ 1) = grind arith in grind (arith, get_or-drop))
 
--- Take the bytes that are left, from the preamble bytes before an open place on. No sighting is decided in them.
+-- The bytes from the preamble bytes before an open place on decide no sighting.
 pub open_undecided : (bytes : List ℕ) (after : After) (place from start used : ℕ) → All (λ byte. byte < 256) bytes
     → IsAsked bytes after place start → after ≡ More → IsStandingAt bytes after from start (Open used)
     → IsUndecidedSighting (faultless (drop used bytes))

@@ -1,6 +1,7 @@
 -- Which bytes are a body: the checked part with its check byte, or bytes of even parity. A body begins with its delimiter.
 use Rattle.hart_frame.proofs.Common.{ℕ, ◌-◌, ◌<◌, ◌≤◌, List, [], ◌∷◌, ◌++◌, length, take, arith, common_steps, take_more, take_all, All}
-use Rattle.hart_frame.proofs.Common.{IsBody, IsCheckedPart, FrameParts, IsCheckByte, HasEvenParity, All-push, ◌≡◌, delimiter_of}
+use Rattle.hart_frame.proofs.Common.{append_assoc, length-append, IsBody, IsCheckedPart, FrameParts, IsCheckByte, HasEvenParity, All-push}
+use Rattle.hart_frame.proofs.Common.{◌≡◌, delimiter_of}
 use Rattle.hart_frame.proofs.lemmas.wire.Parity.{HasEvenParity-push}
 use Rattle.hart_frame.proofs.lemmas.wire.UnambiguousBodies.{address_type-lt, kind_code-is}
 
@@ -18,3 +19,6 @@ IsBody-whole bytes frame some fits part even = grind (arith, take_all, take_more
 pub head_of : (f : FrameParts) (body : List ℕ) → IsBody f body
     → (others : List ℕ) × (body ≡ delimiter_of f ∷ others) × (delimiter_of f < 255)
 head_of f body is = grind (arith, common_steps, kind_code-is, address_type-lt)
+
+-- An attribute in code cannot name lemmas with a dash in their names, so it names this rule set.
+pub ruleset appended = (append_assoc, length-append)

@@ -45,7 +45,7 @@ headers_are_those_of_frames-body bytes f len begins =
     let stands : StandsAsHeader bytes (header_of f) = grind (arith, get_or_append_left, kind_code-is, address_type-lt) in
     header_read bytes (header_of f) stands
 
--- Bytes have a header exactly if they begin with a delimiter of this profile and reach the command.
+-- Bytes have a header exactly if they begin with an STX or ACK delimiter and reach the command.
 pub headers_are_those_of_frames-exactly : (bytes : List ℕ)
     → IsSome (header_in bytes) ↔ (HasDelimiter bytes × (command_place bytes < length bytes))
 unfolding header_in

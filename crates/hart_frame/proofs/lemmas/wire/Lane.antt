@@ -16,7 +16,7 @@ use Rattle.hart_frame.proofs.lemmas.wire.Parity.{IsCheckByte-fold, fits_take}
 abbrev pub xor_of : List ℕ → ℕ
 xor_of bytes = fold bit_xor 0 bytes
 
--- It makes no difference whether a byte enters the XOR of other bytes at the start or at the end.
+-- The XOR of bytes is the same whether a byte comes first or last.
 fold_moved : (start byte : ℕ) (bytes : List ℕ) → fold bit_xor (bit_xor start byte) bytes ≡ bit_xor (fold bit_xor start bytes) byte
 fold_moved start byte [] = refl
 fold_moved start byte (first ∷ bytes) = grind (arith, common_steps, bit_xor, xor_comm, fold_moved (bit_xor start first) byte bytes)
@@ -50,14 +50,15 @@ fold_from start [] = sym (xor_zero_r start)
 fold_from start (byte ∷ bytes) =
     grind (arith, common_steps, bit_xor, xor_comm, fold_moved start byte bytes, fold_moved 0 byte bytes, fold_from start bytes, xor_assoc)
 
--- The exclusive or of a number, of lanes and of the bytes after those that the lanes have is that of the number and all the bytes.
+-- If lanes have the exclusive or of the first `n` bytes, then that of a number, the lanes and the other bytes is that of the number and all
+-- bytes.
 pub fold-rest : (start n : ℕ) (bytes lanes rest : List ℕ) → xor_of lanes ≡ xor_of (take n bytes) → rest ≡ drop n bytes
     → fold bit_xor (bit_xor start (fold_l bit_xor 0 lanes)) rest ≡ fold bit_xor start bytes
 fold-rest start n bytes lanes rest same is =
     grind (arith, fold_from, take-append-drop n bytes, fold-append bit_xor start (take n bytes) (drop n bytes))
 
--- An exclusive or that begins with that of the bytes before a place, and then takes in the bytes from there on, is the check byte of all
--- the bytes.
+-- The check byte of all bytes is found in two steps: the exclusive or of the bytes before a place, and then that of this number and the
+-- bytes from the place on.
 pub checked_rest : (n start : ℕ) (bytes : List ℕ) → start ≡ fold bit_xor 0 (take n bytes) → ((i : ℕ) → get_or bytes i 0 < 256)
     → IsCheckByte bytes (fold bit_xor start (drop n bytes))
 checked_rest n start bytes before each =
@@ -98,12 +99,12 @@ drop_take xs n m order = grind (arith, drop-take n (m - n) xs)
 -- The lanes have the exclusive or of the first `whole` of the first `len` bytes of a list.
 module _ (len whole : ℕ) (bytes lanes : List ℕ) (order : whole ≤ len) (each : (i : ℕ) → get_or bytes i 0 < 256)
     (before : xor_of lanes ≡ xor_of (take whole (take len bytes))) where
-  -- With the other bytes it is their check byte.
+  -- The exclusive or of the lanes and of the bytes from `whole` up to `len` is the check byte of the first `len` bytes.
   pub IsCheckByte-few : (check : ℕ) → check ≡ fold bit_xor (fold_l bit_xor 0 lanes) (take (len - whole) (drop whole bytes))
       → IsCheckByte (take len bytes) check
   IsCheckByte-few check folded = grind (arith, checked_rest whole (xor_of lanes) (take len bytes), fits_take, drop_take)
 
-  -- With a block that begins with the other bytes and has zeros after them it is their check byte too.
+  -- The exclusive or of the lanes and of a block, which has the bytes from `whole` up to `len` and then zeros, is that check byte too.
   pub IsCheckByte-front : (front block : List ℕ) → len ≤ whole + 16 → block ≡ take 16 (drop whole bytes) → length block ≡ 16
       → length lanes ≡ 16 → front ≡ take (len - whole) block ++ replicate (16 - (len - whole)) 0
       → IsCheckByte (take len bytes) (fold_l bit_xor 0 (zip2 bit_xor lanes front))

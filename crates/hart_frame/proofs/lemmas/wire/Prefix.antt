@@ -13,7 +13,7 @@ HasGoodByteCount-more xs ys has = grind (arith, length-append, get_or_append_lef
 pub refused_more : (xs ys : List ℕ) (fault : FrameFault) → fault ≢ Truncated → IsRefusedWith xs fault → IsRefusedWith (xs ++ ys) fault
 refused_more xs ys fault decided refused = grind (arith, length-append, get_or_append_left, length_more, take-append-le)
 
--- A prefix of bytes that is long enough has the check byte and the layout of all the bytes.
+-- If bytes have a check byte, a prefix that reaches it has it too, and gives the same length of the body.
 pub HasCheckByte-prefix : (xs ys : List ℕ) → HasCheckByte (xs ++ ys) → body_length (xs ++ ys) ≤ length xs
     → HasCheckByte xs × (body_length (xs ++ ys) ≡ body_length xs)
 HasCheckByte-prefix xs ys has long = grind (arith, get_or_append_left)

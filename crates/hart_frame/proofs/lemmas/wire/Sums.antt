@@ -39,23 +39,23 @@ part_check xs a b p q order before all = record {
       omega (arith, bit_at_xor q p bit, both, before.odd bit below, all.odd bit below);
 }
 
--- Lanes, and taken into each by exclusive or the lane that stands at a place in zeros and the lanes.
+-- Each lane, joined by exclusive or with the lane that `places` selects for it from zeros and the lanes.
 abbrev pub with_moved : List ℕ → List ℕ → List ℕ
 with_moved lanes places = zip2 bit_xor lanes (pick_l 0 (replicate 16 0 ++ lanes) places)
 
--- Each lane has the exclusive or of the last `m` bytes up to its own, or of all bytes up to its own if they are fewer.
+-- Each lane has the exclusive or of the last `m` bytes up to this lane, or of all bytes up to it if there are fewer.
 pub record SumsLast (m : ℕ) (xs lanes : List ℕ) : Type 0 where
   pub long : length lanes ≡ 16
   pub each : (lane : ℕ) → lane < 16 → xor_of (take (lane + 1) xs) ≡ bit_xor (xor_of (take (lane + 1 - m) xs)) (get_or lanes lane 0)
 
--- The bytes themselves are so for 1.
+-- The bytes themselves are such lanes for `m` = 1.
 pub sums_last_one : (xs : List ℕ) → length xs ≡ 16 → SumsLast 1 xs xs
 sums_last_one xs long = record {
   long = long;
   each = λ lane below. grind (arith, common_steps, take_more xs lane (lane + 1), fold-append);
 }
 
--- If the lane `m` places before a lane is taken in, that lane is so for twice as many bytes.
+-- If the lane `m` places before a lane is joined to it, the lane sums twice as many bytes.
 last_more : (m : ℕ) (xs lanes : List ℕ) → SumsLast m xs lanes → (lane : ℕ) → lane < 16 → (early : Bool) → ltb lane m ≡ early
     → xor_of (take (lane + 1) xs) ≡ bit_xor (xor_of (take (lane + 1 - (m + m)) xs))
     (bit_xor (get_or lanes lane 0) (get_or (replicate 16 0 ++ lanes) (cond early 0 (16 + lane - m)) 0))
@@ -80,7 +80,7 @@ last_more m xs lanes last lane below false is =
     last.each lane below ∙ ap (λ (i : ℕ). bit_xor (xor_of (take i xs)) x) now ∙ ap (λ (b : ℕ). bit_xor b x) old in
     rw at (sum ∙ xor_assoc a y x ∙ ap (bit_xor a) (xor_comm y x))
 
--- If the lanes `m` places before are taken in, the lanes are so for twice as many bytes.
+-- If each lane is joined with the lane `m` places before it, the lanes sum twice as many bytes.
 pub sums_last_more : (m : ℕ) (xs lanes places : List ℕ) → SumsLast m xs lanes → length places ≡ 16
     → agree_below (λ lane. eqb (get_or places lane 0) (cond (ltb lane m) 0 (16 + lane - m))) (λ lane. true) 16 ≡ true
     → SumsLast (m + m) xs (with_moved lanes places)
@@ -103,11 +103,11 @@ sums_last_more m xs lanes places last long all =
           rw joined (rw at (last_more m xs lanes last lane below (ltb lane m) refl));
     }
 
--- Places move lanes by `m` if those of the first `m` lanes are 0 and those of the others begin with 16.
+-- Places move lanes up by `m`: those of the first `m` lanes select zeros, and those of the others select the lanes from the first on.
 abbrev pub moves : ℕ → List ℕ → Bool
 moves m places = agree_below (λ lane. eqb (get_or places lane 0) (cond (ltb lane m) 0 (16 + lane - m))) (λ lane. true) 16
 
--- The lanes are so for all bytes, once lanes of 1, 2, 4 and 8 places before are taken in.
+-- After the lanes 1, 2, 4 and 8 places before were joined in turn, each lane sums all bytes up to it.
 pub sums_last_all : (xs : List ℕ) → length xs ≡ 16 → (one two four eight : List ℕ) → length one ≡ 16 → length two ≡ 16
     → length four ≡ 16 → length eight ≡ 16 → moves 1 one ≡ true → moves 2 two ≡ true → moves 4 four ≡ true → moves 8 eight ≡ true
     → SumsLast 16 xs (with_moved (with_moved (with_moved (with_moved xs one) two) four) eight)
@@ -121,7 +121,7 @@ fits_lanes [] fits i = omega arith
 fits_lanes (x ∷ xs) fits zero = fits.0.fits
 fits_lanes (x ∷ xs) fits (suc i) = fits_lanes xs fits.1 i
 
--- The lanes of all bytes up to each lane have the check bytes of these bytes.
+-- Lanes that sum all bytes up to each lane are the check bytes of these bytes.
 pub running_checks : (xs lanes : List ℕ) → SumsLast 16 xs lanes → ((i : ℕ) → get_or xs i 0 < 256)
     → (lane : ℕ) → lane < 16 → IsCheckByte (take (lane + 1) xs) (get_or lanes lane 0)
 running_checks xs lanes last each lane below =
@@ -129,7 +129,8 @@ running_checks xs lanes last each lane below =
     IsCheckByte-fold (take (lane + 1) xs) (get_or lanes lane 0) (fits_take xs (lane + 1) each)
     (sym (last.each lane below ∙ ap (λ (k : ℕ). bit_xor (xor_of (take k xs)) (get_or lanes lane 0)) none ∙ xor_zero_l _))
 
--- Check bytes of the first bytes of a list, and the sixteen after them, are those of the first bytes still.
+-- From the check bytes of all prefixes of up to `n` bytes, and from the next sixteen bytes, come the check bytes of sixteen longer
+-- prefixes.
 pub checks_on : (xs checks block run rest : List ℕ) (n : ℕ)
     → ((count : ℕ) → count ≤ n → IsCheckByte (take count xs) (get_or checks count 0)) → n + 1 ≤ length checks
     → block ≡ take 16 (drop n xs) → length run ≡ 16
@@ -180,7 +181,7 @@ sums_part bytes sums start stop is after order reached =
     let there : drop a (drop sums.from bytes) ≡ drop start bytes = grind (arith, drop-drop) in
     rw (len, there) at part
 
--- Sums with those of one more block are sums.
+-- If the check bytes of one more block are added to sums, they are sums of the bytes up to the end of this block.
 pub sums_block : (bytes : List ℕ) (sums : Sums) (run added : List ℕ) → AreSums bytes sums → sums.to + 16 ≤ length bytes
     → sums.to + 16 ≤ sums.from + 1264 → length run ≡ 16
     → ((lane : ℕ) → lane < 16 → IsCheckByte (take (lane + 1) (take 16 (drop sums.to bytes))) (get_or run lane 0))

@@ -58,7 +58,7 @@ pub truncated_count : (xs : List ℕ) (fewer : ℕ) → HasDelimiter xs → fewe
     → IsTruncated (take fewer xs)
 truncated_count xs fewer has before within = grind (arith, length-take-le, get_or-take)
 
--- A prefix that ends before the end of the check byte ends too early, if the byte count is good.
+-- A prefix that ends before the check byte ends too early, if the byte count is good.
 pub truncated_check : (xs : List ℕ) (fewer : ℕ) → HasGoodByteCount xs → fewer < body_length xs → fewer ≤ length xs
     → IsTruncated (take fewer xs)
 truncated_check xs fewer has before within = grind (arith, length-take-le, truncated_count, get_or-take)

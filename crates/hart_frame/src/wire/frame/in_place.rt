@@ -6,7 +6,7 @@ use crate::{Frame, FrameKind};
 use hart_values::{Address, MasterId, Payload};
 
 impl Frame {
-    /// Turns this frame, in place, into the request that [`Frame::request`] returns.
+    /// Overwrites this frame with the request that [`Frame::request`] returns for these arguments.
     pub fn set_request(
         &mut self,
         master: MasterId,
@@ -26,7 +26,7 @@ impl Frame {
         self.payload.extend_from_slice(payload.as_slice());
     }
 
-    /// Turns this frame, in place, into the reply to `request` that [`Frame::reply`] returns.
+    /// Overwrites this frame with the reply to `request` that [`Frame::reply`] returns.
     ///
     /// The payload begins with the two status bytes.
     pub fn set_reply(&mut self, request: &Frame, payload: &Payload)

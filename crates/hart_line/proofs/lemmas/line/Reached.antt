@@ -55,7 +55,7 @@ reached_first device process primary secondary line is one other same master ano
       well_made = search rules;
     }
 
--- What a line returns after these events is what the events led to.
+-- The device, the outcomes and the frames that a line returns after these events are those to which the events led.
 pub reached_led : {start : Start} {events : List LineEvent} {line : LineState} {noted : List Spoken} (device : DeviceState)
     (outcomes : List Outcome) → (r : IsReached start events line noted) → device ≡ line.device → outcomes ≡ line.outcomes
     → Led start events device outcomes noted

@@ -1,4 +1,4 @@
--- The room that a script needs is enough for each of its events, and for all that is spoken.
+-- The memory that a script needs is enough for each of its events, and for all that is spoken.
 use Rattle.hart_line.proofs.Common.{◌∷◌, arith, ℕ, ◌+◌, ◌<◌, List, [], length, drop, get_or, common_steps, drop_more, LineEvent, LineState}
 use Rattle.hart_line.proofs.Common.{◌≡◌, ◌≤◌, ◌++◌, inl, inr, sum_by-append, Turn, length-append, IsLast, Step, Start, World, first_world}
 use Rattle.hart_line.specs.line.Room.{HasRoomFor, LeavesRoom}

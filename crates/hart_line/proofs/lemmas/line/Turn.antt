@@ -5,11 +5,13 @@ use Rattle.hart_line.proofs.Common.{after_reply, Brought, OneFrame, state_after_
 use Rattle.hart_line.proofs.Common.{if◌then◌else◌, append-nil, AnswersTo, IsSent, LineState, Stands, Stepped, AreHeld, Concludes, Arrives}
 use Rattle.hart_line.proofs.Common.{Reaches, AreSpoken, SpokenFrame, Speaks, frame_of, master_preambles, party_of, spoken_by, Step}
 use Rattle.hart_line.proofs.Common.{cold_start_after, effect_on, replied, spoken_request, sent_back, sent_by, turned, InHand, Start, World}
-use Rattle.hart_line.proofs.Common.{state_of, MarksWithin}
+use Rattle.hart_line.proofs.Common.{state_of, ℕ, Address, Err, MarksWithin, Refused, Request, Submits, hand_of, hand_submitted}
+use Rattle.hart_line.proofs.Common.{result_submitted, submission_fault}
 use Rattle.hart_frame.specs.wire.Message.{IsPreambleCount}
 use Rattle.hart_line.proofs.lemmas.line.Leg.{AreSpoken-two, says_request, speaks_sent}
 use Rattle.hart_line.proofs.lemmas.world.Basics.{with_master-same}
 use Rattle.hart_line.proofs.lemmas.world.Steps.{frame_in, none_reaches, reaches_sent, state-after}
+use Rattle.hart_master.specs.declared.fault.Rejected.{Rejected}
 use Rattle.hart_line.specs.declared.line.report.Party.TheVariants as parties
 
 -- The device answered what this leg brought it. In this event only the sent frame and then the answer, if any, were spoken.
@@ -128,3 +130,10 @@ turn_stands start world who up down (Some held) answer returned line within in_h
       said_is = refl;
       spoken_are = a.spoken_are;
     }
+
+-- A submission that the master refuses is refused in the world with the same fault, and the hand does not change.
+pub refused_submits : (held : Option InHand) (place : ℕ) (address : Address) (request : Request) (rejected : Rejected)
+    (Left : Option InHand → Type 0) → result_submitted (hand_of held) address request ≡ Err rejected
+    → (hand_submitted (hand_of held) address request ≡ hand_of held → Left held)
+    → Submits held place address request (submission_fault held address request) (Refused rejected.fault) Left
+refused_submits held place address request rejected Left is left = grind arith

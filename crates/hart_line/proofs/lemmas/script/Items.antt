@@ -1,8 +1,7 @@
 -- Texts that consist of items, end to end.
-use Rattle.hart_line.proofs.Common.{subst, ◌∙◌, Faulty, BeginsAsItem, ◌≡◌, ◌≢◌, ℕ, ◌≤◌, List, [], ◌∷◌, ◌++◌, get_or, length, map, IsTrue}
-use Rattle.hart_line.proofs.Common.{refl, arith, ap, common_steps, AllByRecursion, flat_map, Character, append-nil, append_assoc, AreDigits}
-use Rattle.hart_line.proofs.Common.{AreItems, BeginsWithItem, byte_of, EndsBefore, IsValidItem, Item, item_meaning, item_spelling, Plain}
-use Rattle.hart_frame.specs.heard.Character.{AreFaultBits}
+use Rattle.hart_line.proofs.Common.{Faulty, ◌≡◌, ◌≢◌, ℕ, List, [], ◌∷◌, ◌++◌, map, IsTrue}
+use Rattle.hart_line.proofs.Common.{refl, arith, ap, common_steps, AllByRecursion, flat_map, Character, append-nil, append_assoc}
+use Rattle.hart_line.proofs.Common.{AreItems, BeginsWithItem, EndsBefore, IsValidItem, Item, item_meaning, item_spelling, Plain}
 use Rattle.hex.specs.Hex.{is_hex_digit}
 
 -- What items spell does not begin with a `!`.
@@ -22,7 +21,7 @@ first_begins : (text : List ℕ) (item : Item) (items : List Item) → text ≡ 
     → AllByRecursion IsValidItem (item ∷ items) → BeginsWithItem text item (flat_map item_spelling items)
 first_begins text item items spelled valid = record { valid = valid.0; spelled = spelled; ends = items_end item items valid.1 }
 
--- So two lists of items with the same spelling are equal.
+-- So two valid lists of items that are written alike are equal.
 items_one : (xs ys : List Item) → AllByRecursion IsValidItem xs → AllByRecursion IsValidItem ys
     → flat_map item_spelling xs ≡ flat_map item_spelling ys → xs ≡ ys
 items_one [] [] v w same = refl
@@ -81,7 +80,7 @@ reads_item text chars rest item tail reads begins = record {
       (more, are_more, grind (arith, common_steps, append_assoc));
 }
 
--- A nonempty text of items end to end begins with an item.
+-- A nonempty text of items begins with an item.
 pub items_begin : (text : List ℕ) (chars : List Character) → text ≢ [] → AreItems text chars
     → (item : Item) × (tail : List ℕ) × BeginsWithItem text item tail
 items_begin text chars some are = begin are.items are.valid are.spelled
@@ -95,30 +94,3 @@ items_begin text chars some are = begin are.items are.valid are.spelled
 pub items_begin_with_digit : (byte : ℕ) (word : List ℕ) (chars : List Character) → AreItems (byte ∷ word) chars → IsTrue (is_hex_digit byte)
 items_begin_with_digit byte word chars are =
     let (item, tail, begins) = items_begin (byte ∷ word) chars (λ is. cc) are in grind arith
-
--- The case of a text that begins with an item without fault bits.
-pub begins_as_plain : (text : List ℕ) (char : Character) (byte : ℕ) → 2 ≤ length text → AreDigits (get_or text 0 0) (get_or text 1 0)
-    → byte ≡ byte_of (get_or text 0 0) (get_or text 1 0) → (get_or text 2 0 ≡ 33 → ⊥) → char ≡ record { byte = byte; faults = 0 }
-    → BeginsAsItem text char 2
-begins_as_plain (x ∷ y ∷ tail) char byte some d b n e = record {
-  item = Plain x y;
-  tail = tail;
-  begins = record { valid = d; spelled = refl; ends = grind arith };
-  long = refl;
-  means = cc;
-}
-begins_as_plain text char byte some d b n e = absurd (omega arith)
-
--- The case of a text that begins with an item with fault bits.
-pub begins_as_faulty : (text : List ℕ) (char : Character) (byte faults : ℕ) → 5 ≤ length text
-    → AreDigits (get_or text 0 0) (get_or text 1 0) → byte ≡ byte_of (get_or text 0 0) (get_or text 1 0) → get_or text 2 0 ≡ 33
-    → AreDigits (get_or text 3 0) (get_or text 4 0) → faults ≡ byte_of (get_or text 3 0) (get_or text 4 0) → faults ≢ 0
-    → AreFaultBits faults → char ≡ record { byte = byte; faults = faults } → BeginsAsItem text char 5
-begins_as_faulty (x ∷ y ∷ m ∷ v ∷ w ∷ text) char byte faults some d b n f g z a e = record {
-  item = Faulty x y v w;
-  tail = text;
-  begins = record { valid = (d, f, λ k. z (g ∙ k), subst AreFaultBits g a); spelled = cc; ends = tt };
-  long = refl;
-  means = cc;
-}
-begins_as_faulty text char byte faults some d b n f g z a e = absurd (omega arith)

@@ -1,4 +1,4 @@
--- Lines say at most one list of events, and lines that say events include no bad line.
+-- Lines write at most one list of events, and lines that write events include no bad line.
 use Rattle.hart_line.proofs.Common.{◌≡◌, ◌<◌, ◌⊎◌, ℕ, List, [], ◌∷◌, Some, Err, ap, arith, codes, sym, refl, take}
 use Rattle.hart_line.proofs.Common.{pred, common_steps, AllZip, slice_get, Heard, Chars, Clean, Lost, LineEvent, Noise, Turn, Character}
 use Rattle.hart_line.proofs.Common.{RowFault, AreItems, IsItemsWord, AreEvents, HasFirstBadLine, IsBadLine, IsLegWord, IsScript, ReadsWords}

@@ -11,7 +11,7 @@ pub none_or_some : {A : Type 0} (a : Option A) → (a ≡ None) ⊎ (x : A) × (
 none_or_some None = inl refl
 none_or_some (Some x) = inr (x, refl)
 
--- One master has what it was given, and the other still has what it had.
+-- After one master got a new value, it has this value, and the other master has its old one.
 pub with_master-cases : {A : Type 0} (id who : MasterId) (a : Option A) (each : EachMaster (Option A)) (x : A)
     → of_master id (with_master who a each) ≡ Some x → ((id ≡ who) × (a ≡ Some x)) ⊎ ((id ≢ who) × (of_master id each ≡ Some x))
 with_master-cases id who a each x is = grind arith

@@ -23,7 +23,7 @@ pub Arrives-one : (heard : Heard) (sent : Option SpokenFrame) (a b : Option Fram
     → Arrives heard sent b → a ≡ b
 Arrives-one heard sent a b s t = grind (arith, AreHeard-one, frames_are_unambiguous-one_list)
 
--- A leg never brings the device two different things.
+-- A leg brings the device at most one thing.
 brings_among : {identity : IdentityParts} {chars : List Character} {sent : Option FrameParts} {brought : Brought}
     → ReachesAmong identity chars sent brought → Brings identity chars brought
 brings_among r = record { frames = r.arrives.frames; are_frames = r.arrives.are_frames; by_frames = r.brings }
@@ -34,7 +34,7 @@ Reaches-one identity heard sent a b s t =
     let same = AreHeard-one heard sent s.chars t.chars s.are_heard t.are_heard in
     deliveries_bring_one-one identity t.chars a b (rw same at (brings_among s.among)) (brings_among t.among)
 
--- If `Arrives` holds for what is heard in a leg, the leg has no undetected damage.
+-- If something arrives in a leg, its damage is detected.
 arrived_detected : {heard : Heard} {sent : Option SpokenFrame} {arrived : Option FrameParts} → Arrives heard sent arrived
     → IsUndetected heard sent → ⊥
 arrived_detected a u = grind (arith, AreHeard-one, frames_are_unambiguous-one_list)

@@ -24,8 +24,7 @@ pub none_reaches : (identity : IdentityParts) (heard : Heard) (brought : Brought
     → frame_in brought ≡ None
 none_reaches identity heard brought r = grind arith
 
--- ONE STEP
--- A turn with a request in hand, which brings the device the frame of this request or no frame.
+-- ONE STEP A turn of a master with a request in hand. The turn brings the device the frame of this request, or no frame.
 pub record IsSending (start : Start) (world : World) (who : MasterId) (brought : Brought) (accepted : Option Reply) (next : World)
     : Type 0 where
   pub held : InHand

@@ -1,5 +1,5 @@
--- A request in hand is unfinished. It was submitted under its number, to its master and for its address. It was executed no more often than
--- sent.
+-- A request in hand is unfinished. It was submitted under its number, to its master and for its address. It was executed at most as often
+-- as it was sent.
 use Rattle.hart_line.proofs.Common.{same_Some, ◌≡◌, ℕ, ◌+◌, ◌<◌, refl, Some, List, [], ◌∷◌, ◌++◌, get_or, length, slice_set, take, arith}
 use Rattle.hart_line.proofs.Common.{◌≤◌, common_steps, map-append, take_more, All-append, nat_tests, sum_by-append, slice_get, of_master}
 use Rattle.hart_line.proofs.Common.{MasterId, IsRequest, Effect, LineEvent, Outcome, Unfinished, ◌==◌, if◌then◌else◌, append-nil}

@@ -121,7 +121,7 @@ are_writes start events made = along start (first_world start) events (λ es wor
     ]) (grind (arith, elements))
 
 -- LAST EXECUTIONS
--- A later execution of the submission has the same overwrite.
+-- If a submission is executed again later, the later execution has the same overwrite.
 contains_again : (writes : ℕ → Option Overwrite) (execution : Execution) (later : List Execution)
     → All (λ e. writes e.submission ≡ Some e.overwrite) (execution ∷ later)
     → has_execution_of execution.submission later ≡ true → Contains (overwrites_of later) execution.overwrite

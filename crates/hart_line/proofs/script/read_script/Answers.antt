@@ -6,7 +6,7 @@ use Rattle.std.proofs.Math.Seq.{get_or-append_seam, take-append_seam}
 use Rattle.hart_line.proofs.script.read_script.Invariants.{Told}
 use Rattle.hart_line.proofs.script.read_script.Goals as goal
 
--- one more line adds the event that it says, if any
+-- one more line adds the event that it writes, if any
 one_more : (lines : List (List (List ℕ))) (words : List (List ℕ)) (events said : List LineEvent) → AreEvents lines events
     → AreEvents (words ∷ []) said → AreEvents (lines ++ words ∷ []) (events ++ said)
 one_more lines words events [] before are = grind (arith, append-nil, filter-append)
@@ -22,7 +22,7 @@ told_more text line left number events new (seen, split, long, are) (said, adds,
   rw added (one_more seen line events said are adds),
 )
 
--- the line after those seen stands at their number
+-- the next line of a list stands at the number of the lines before it
 stands : (lines seen more : List (List (List ℕ))) (words : List (List ℕ)) → lines ≡ seen ++ words ∷ more
     → (length seen < length lines) × (get_or lines (length seen) words ≡ words) × (take (length seen) lines ≡ seen)
 stands lines seen more words is = rw is

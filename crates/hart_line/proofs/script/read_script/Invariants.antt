@@ -1,7 +1,7 @@
 use Rattle.hart_line.proofs.Common.{◌≡◌, ◌+◌, ◌≤◌, ◌++◌, ℕ, List, length, AreEvents, LineEvent, lines_in_words}
 use Rattle.hart_line.proofs.script.read_script.Given as goal
 
--- these lines of a text are left, and the lines before them, of this number, say these events
+-- these lines of a text are not read yet; there are this many lines before them, which write these events
 abbrev pub Told : List ℕ → List (List (List ℕ)) → ℕ → List LineEvent → Type 0
 Told text left number events = (seen : List (List (List ℕ))) × (lines_in_words text ≡ seen ++ left)
     × (length seen ≡ number) × AreEvents seen events

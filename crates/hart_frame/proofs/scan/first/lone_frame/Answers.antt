@@ -6,7 +6,7 @@ use Rattle.hart_frame.proofs.lemmas.heard.FramesFound.{AreFrames-one}
 use Rattle.hart_frame.proofs.lemmas.scan.First.{first_copied, first_later, no_later, some_first}
 use Rattle.hart_frame.proofs.scan.first.lone_frame.Goals as goal
 
--- Whether a delivery has no frame, one frame alone or several follows from its list of frames.
+-- The list of frames of a delivery decides whether the delivery has no frame, one frame alone or several.
 only_said : (delivery : List Character) (said : LoneFrame) → IsLone delivery said
     → (frames : List Found) → AreFrames delivery 0 frames → said ≡ lone_of frames
 only_said delivery said are frames others = grind (arith, AreFrames-one)

@@ -3,11 +3,11 @@ use Rattle.std.proofs.lemmas.Bool.{agree_below_at}
 use Rattle.hart_frame.specs.wire.Delimiter.{is_delimiter}
 use Rattle.hart_frame.proofs.wire.delimiter.read_delimiter.Goals as goal
 
--- The bits of a byte in which all delimiters are alike tell whether it is a delimiter.
+-- The bits that are the same in all delimiters tell whether a byte is a delimiter.
 by_mask : (byte : ℕ) → byte < 256 → (bit_and byte 0x1B == 2) ≡ is_delimiter byte
 by_mask byte fits = agree_below_at (λ (b : ℕ). bit_and b 0x1B == 2) is_delimiter 256 byte refl fits
 
--- A byte with those bits has the kind 2 exactly if its bits 2 and 1 are those of 2.
+-- A byte with those bits has the kind 2 exactly if its bits 2 and 1 are those of the number 2.
 stx_by_mask : (byte : ℕ) → byte < 256 → (not (is_delimiter byte) || (bit_and byte 6 == 2)) ≡ (not (is_delimiter byte) || (byte % 8 == 2))
 stx_by_mask byte fits =
     agree_below_at (λ (b : ℕ). not (is_delimiter b) || (bit_and b 6 == 2)) (λ (b : ℕ). not (is_delimiter b) || (b % 8 == 2)) 256 byte

@@ -15,7 +15,8 @@ submitted_steps start world who address request fault outcome line masters is si
     silent_step start world (submitted world who address request fault) _ _ (rw is refl) (grind arith) silent (grind arith)
 
 pub returns-clause-stepped : goal.returns-clause-stepped
-returns-clause-stepped g c = λ process start world same within stands. rw c.push.ensures (submitted_steps start world c.args.who
-    c.args.address c.args.request.now _ c.submit-outcome.result _ c.submit-outcome.new.self refl
+returns-clause-stepped g c = λ process start world same within stands.
+    rw (c.push.ensures, c.first_outcome-outcome.ensures) (submitted_steps start world c.args.who c.args.address
+    c.args.request.now _ _ _ c.submit-fault.new.self refl
     (rw (← c.self.view_is) at c.requires.room.nothing_spoken) (rw (← c.self.view_is) at stands)
-    (rw c.len-place.ensures at (c.submit-outcome.ensures.submits start.retries world.hands (rw (← c.self.view_is) at stands.masters_are))))
+    (rw c.len-place.ensures at (c.submit-fault.ensures.submits start.retries world.hands (rw (← c.self.view_is) at stands.masters_are))))

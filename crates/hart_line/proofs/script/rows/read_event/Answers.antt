@@ -4,7 +4,7 @@ use Rattle.hart_line.specs.declared.script.rows.RowFault.TheVariants.{Bad}
 use Rattle.hart_line.proofs.lemmas.script.Rows.{says_none}
 use Rattle.hart_line.proofs.script.rows.read_event.Goals as goal
 
--- a row whose words need no memory is read, or its line is bad
+-- if the words of a row need no memory, the row is read, or its line is bad
 found_or_bad : (IsNeeded : ℕ → Type 0) (IsSaid : LineEvent → Type 0) (read : Option LineEvent) (result : Result LineEvent RowFault)
     → Finds IsSaid read → result ≡ ok_or read Bad → ReadsWords IsNeeded IsSaid result
 found_or_bad IsNeeded IsSaid None result finds gives = rw gives finds

@@ -1,6 +1,0 @@
-use Rattle.hart_line.proofs.Common.{◌≡◌, length}
-use Rattle.hart_line.specs.script.Digits.{AreDigitValues}
-use Rattle.hart_line.proofs.script.digits.Digits.new.Given as goal
-
-abbrev pub invariant-loop-place : goal.invariant-loop-place
-invariant-loop-place l = record { values : AreDigitValues l.place l.values; long : length l.values ≡ 256 }

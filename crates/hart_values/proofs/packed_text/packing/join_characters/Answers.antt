@@ -1,7 +1,0 @@
-use Rattle.std.proofs.Common.{arith}
-use Rattle.std.proofs.lemmas.Grind.{common_steps}
-use Rattle.std.proofs.lemmas.Nat.{or_shifted, and_mask}
-use Rattle.hart_values.proofs.packed_text.packing.join_characters.Goals as goal
-
-pub returns : goal.returns
-returns c = grind (arith, common_steps, or_shifted, and_mask)
