@@ -1,4 +1,4 @@
-//! Checks of results. A failed check tells what it got and what was wanted, and of which row.
+//! Checks of results. The error of a failed check says which value it got, which value it wanted, and in which row.
 ghost use Rattle.std.specs.Prelude.{◌↔◌, ◌≡◌, ◌≢◌, IfSome, IsNone, IsOk, IsSome, IsTrue, Ok, true};
 
 use std::alloc::Global;
@@ -18,7 +18,7 @@ pub fn hold(holds: bool, word: &str, number: usize) -> Result<(), Fail>
     }
 }
 
-/// Like `hold`, for a check that may end in an error. An error is printed, and fails the test too.
+/// Like `hold`, for a check that may end in an error. Such an error is printed, and fails the test too.
 pub fn hold_ok(
     rt: &impl Eprint,
     holds: Result<bool, Fail>,
@@ -37,7 +37,7 @@ pub fn hold_ok(
     hold(holds, word, number)
 }
 
-/// Like `hold`, unless `got` is `wanted`. The failure says both.
+/// Fails unless `got` is `wanted`. The failure shows both values, and names `word` and `number`.
 pub fn hold_same<T: PartialEq + Debug>(
     rt: &impl Eprint,
     got: &T,
@@ -50,7 +50,7 @@ pub fn hold_same<T: PartialEq + Debug>(
     hold_ok(rt, same(got, wanted), word, number)
 }
 
-/// Whether a check of `got` holds. If it does not, the error says what `got` is.
+/// Returns true if `holds` is true. Otherwise returns an error that shows `got`.
 pub fn told<T: Debug>(holds: bool, got: &T) -> Result<bool, Fail>
     ensures { (result ≡ Ok true) ↔ IsTrue holds }
 {
@@ -61,7 +61,7 @@ pub fn told<T: Debug>(holds: bool, got: &T) -> Result<bool, Fail>
     }
 }
 
-/// Whether `got` is `wanted`. If it is not, the error says both.
+/// Returns true if `got` is `wanted`. Otherwise returns an error that shows both values.
 pub fn same<T: PartialEq + Debug>(got: &T, wanted: &T) -> Result<bool, Fail>
     ensures { (result ≡ Ok true) ↔ IsTrue (T.eq got.now wanted.now) }
 {
@@ -72,7 +72,7 @@ pub fn same<T: PartialEq + Debug>(got: &T, wanted: &T) -> Result<bool, Fail>
     }
 }
 
-/// Bytes, which are displayed in hex, or no bytes.
+/// Bytes to display in hex, or `None` to display as `none`.
 #[derive(Drop)]
 struct Hex<'a>(Option<&'a [u8]>);
 
@@ -99,7 +99,7 @@ pub fn same_bytes(got: &[u8], wanted: &[u8]) -> Result<bool, Fail>
     Err(differ(Some(got), Some(wanted)))
 }
 
-/// Like `same`, for bytes, if there are any.
+/// Like `same_bytes`, but `got` and `wanted` may each be missing. They are the same if both are missing.
 pub fn same_if_any(got: Option<&[u8]>, wanted: Option<&[u8]>) -> Result<bool, Fail>
     ensures both { IfSome got.entry (λ got. IfSome wanted.entry (λ wanted. (result ≡ Ok true) ↔ (got.now ≡ wanted.now))) }
     ensures neither { IsNone got.entry → (result ≡ Ok true) ↔ IsNone wanted.entry }
@@ -112,14 +112,14 @@ pub fn same_if_any(got: Option<&[u8]>, wanted: Option<&[u8]>) -> Result<bool, Fa
     }
 }
 
-/// Returns what tells that bytes, or none, are not those that were wanted.
+/// Returns the failure that says which bytes were got and which were wanted.
 fn differ(got: Option<&[u8]>, wanted: Option<&[u8]>) -> Fail {
     let got = Hex(got);
     let wanted = Hex(wanted);
     Fail::new(format_args!("got {got}, wanted {wanted}"))
 }
 
-/// Whether a value is displayed as this text. If it is not, the error says both texts.
+/// Returns true if a value is displayed as this text. Otherwise returns an error that shows both texts.
 pub fn has_text(alloc: Global, value: &impl Display, text: &str) -> Result<bool, Fail> {
     let written = format!(in alloc; "{value}")?;
     same(&written.as_str(), &text)

@@ -1,7 +1,7 @@
-//! What the tests share: checks that tell which row of a table fails and what was got, and tables that the tests of several crates use.
+//! What the tests share: checks that say which row of a table fails and what was got, and tables that the tests of several crates use.
 //!
-//! `hart_tests_values` to `hart_tests_cli` have the tests themselves, a crate for each layer, and use only what the tested crates offer to
-//! every other crate. They try what no contract promises: worked messages, texts, readers and writers that fail, and refused memory.
+//! The tests are in `hart_tests_values` to `hart_tests_cli`, a crate for each layer. They use only the public items of the tested crates.
+//! They test what no contract promises: worked messages, texts, failing readers and writers, and refused allocations.
 //! `tools/runs.py` runs the built program, and `tools/library_calls.c` tests the calls of hart_c from C.
 #![tactic(auto)]
 

@@ -1,4 +1,4 @@
-//! Scripts that are carried out on the bench device. The tests of `run` and of `hart sim` use the same ones.
+//! Scripts that are carried out on the bench device. The tests of `run` and of `hart sim` use the same scripts.
 
 /// A reply is lost, and the write is executed again.
 pub const REPLY_LOST: &str = "submit P 37420A1B2C 19 012345\nturn P ok lost\nturn P ok ok";
@@ -12,18 +12,17 @@ pub const PROTECTED_MEANWHILE: &str =
     "submit P 37420A1B2C 19 012345\nsubmit S 37420A1B2C 19 0A0B0C\n\
     turn P ok lost\nturn S ok ok\nprotect on\nturn P ok ok";
 
-/// A reset names a counter value. A write of the other master moves the counter on before the reset is sent again.
+/// Command 38 is sent with a counter value. Before it is sent again, a write of the other master increments the counter.
 pub const RESET_OVERTAKEN: &str = "submit P 37420A1B2C 38 0001\nsubmit S 37420A1B2C 19 0A0B0C\n\
     turn P ok lost\nturn S ok ok\nturn P ok ok";
 
 pub const WRITTEN: &str = "submit P 37420A1B2C 19 012345\nturn P ok ok";
 
-/// The polling address changes between two sendings to the old polling address.
+/// The polling address changes between two sendings of a request to the old one.
 pub const ADDRESS_MOVES: &str = "submit P @0 0\nsubmit S 37420A1B2C 6 0501\n\
     turn P ok lost\nturn S ok ok\nturn P ok ok";
 
-/// Three scripts. In the first, no request is heard in four turns. In the second, no request is heard in one turn. In the third, no reply
-/// is heard in two turns.
+/// No request is heard in four turns. In the two scripts below, no request is heard in one turn, and no reply is heard in two turns.
 pub const REQUESTS_LOST: &str = "submit P 37420A1B2C 19 012345\n\
     turn P lost ok\nturn P lost ok\nturn P lost ok\nturn P lost ok";
 
@@ -31,14 +30,14 @@ pub const REQUEST_LOST: &str = "submit P 37420A1B2C 19 012345\nturn P lost ok";
 
 pub const REPLIES_LOST: &str = "submit P 37420A1B2C 19 012345\nturn P ok lost\nturn P ok lost";
 
-/// A request that must not go to all devices, and a second request for a master whose first request is still in hand.
+/// A request that must not be sent to all devices, and a second request for a master that has a request in hand.
 pub const REFUSED: &str = "submit P all 0\nsubmit S 37420A1B2C 16\nsubmit S 37420A1B2C 16";
 
-/// The address byte of a request is heard with a vertical parity fault.
+/// The first address byte of a request is heard with a vertical parity fault.
 pub const ADDRESS_FAULTY: &str =
     "submit P 37420A1B2C 19 012345\nturn P FFFF82B7!40420A1B2C13030123453D ok";
 
-/// The address byte of a request is heard as another byte, so that the check byte does not fit.
+/// The first address byte of a request is heard as another byte, so the check byte is wrong.
 pub const ADDRESS_REPLACED: &str =
     "submit P 37420A1B2C 19 012345\nturn P FFFF82B6420A1B2C13030123453D ok";
 
@@ -55,24 +54,24 @@ pub const BOTH_LEGS_DAMAGED: &str =
 pub const PREAMBLE_FAULTY: &str =
     "submit P 37420A1B2C 19 012345\nturn P FF!40FFFF82B7420A1B2C13030123453D ok";
 
-/// A request is heard with another check byte, which the device reports. Sent again, it is heard as it was sent.
+/// A request is heard with a wrong check byte, which the device reports. When the request is sent again, it is heard unchanged.
 pub const CHECK_REPLACED: &str = "submit P 37420A1B2C 19 012345\n\
     turn P FFFF82B7420A1B2C13030123453C ok\nturn P ok ok";
 
-/// A request is heard with another check byte; the reply is lost, then damaged. Noise is heard as a request of either master with
-/// another check byte.
+/// A request is heard twice with a wrong check byte. The first reply is lost, and the second reply is damaged. Then noise is heard twice:
+/// a request of each master with a wrong check byte.
 pub const COMMUNICATION_FAULTS: &str =
     "submit P 37420A1B2C 19 012345\nsubmit S 37420A1B2C 19 012345\n\
     turn P FFFF82B7420A1B2C13030123453C lost\n\
     turn P FFFF82B7420A1B2C13030123453C FFFF86B7420A1B2C130288!4000D7\n\
     noise FFFF82B7420A1B2C13030123453C\nnoise FFFF8237420A1B2C13030A0B0CD6";
 
-/// In turns without a request in hand, the device hears a request with another check byte.
+/// Neither master has a request in hand, but in each turn the device hears a request with a wrong check byte.
 pub const NOTHING_ASKED: &str =
     "turn P FFFF82B7420A1B2C13030123453C ok\nturn S FFFF82B7420A1B2C13030123453C lost";
 
-/// Three times a request is heard with another check byte. The device's reply is heard first as it was sent, then with a fault bit, then
-/// with another check byte.
+/// Three times a request is heard with a wrong check byte. The device's reply is heard first as it was sent, then with a fault bit, then
+/// with a wrong check byte.
 pub const REPLY_HEARD: &str = "submit P 37420A1B2C 19 012345\n\
     turn P FFFF82B7420A1B2C13030123453C FFFF86B7420A1B2C13028800D7\n\
     turn P FFFF82B7420A1B2C13030123453C FFFF86B7420A1B2C13028800D7!02\n\
@@ -104,7 +103,7 @@ pub const RESTART_LOST: &str =
 pub const RESTART_MEANWHILE: &str =
     "submit P 37420A1B2C 19 012345\nturn P ok lost\nrestart\nturn P ok ok\nturn S ok ok";
 
-/// Command 21 asks all devices which device has this long tag. Then another long tag is written and read.
+/// Command 21 asks all devices for the one with a long tag of spaces. Then a different long tag is written and read.
 pub const LONG_TAG_WRITTEN: &str =
     "submit P all 21 2020202020202020202020202020202020202020202020202020202020202020\n\
     turn P ok ok\n\

@@ -1,4 +1,4 @@
-//! Texts and bytes that the rows of tests are made of.
+//! Texts and bytes from which the rows of tests are made.
 
 use std::alloc::{AllocError, Global};
 use std::test::Fail;

@@ -118,7 +118,7 @@ pub const OWN: &[OwnRow] = &[
     ),
 ];
 
-/// What is heard, and the reply to it. The reply is empty if the device is silent.
+/// What is heard, and the reply, which is empty if the device is silent.
 pub type Heard<'a> = (&'a str, &'a str);
 
 /// Requests to a polling address, requests to all devices, and garbled requests.

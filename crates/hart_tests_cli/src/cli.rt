@@ -1,4 +1,4 @@
-//! The calls of hart_cli by name, and through `program` by their words.
+//! Tests of hart_cli. They make each call in two ways: by its function, and by running `program` on the words of the command line.
 mod call;
 mod calls;
 mod encode;
@@ -14,4 +14,5 @@ mod program;
 mod request;
 mod scripts;
 mod serve;
+mod sessions;
 mod streams;

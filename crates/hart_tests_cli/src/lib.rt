@@ -1,4 +1,4 @@
-//! The tests of hart_cli.
+//! The tests of hart_cli and hart_request.
 #![tactic(auto)]
 
 #[cfg(test)]

@@ -167,7 +167,7 @@ fn a_list_has_one_to_eight_codes(rt: HostRuntime) -> Result<(), Fail> {
     Ok(())
 }
 
-/// Commands with data. Each row also has the data that writing the request gives, or the code with which the data are refused.
+/// Commands with data. Each row also has the data with which the request is written, or the code with which the data are refused.
 const REQUESTS: &[(u8, &[u8], Result<&[u8], u8>)] = &[
     (0, &[], Ok(&[])),
     (6, &[0x05], Ok(&[0x05, 0x00])),
@@ -216,8 +216,8 @@ const NO_IDENTITY: [u8; 24] = [
     0x00, 0x00, 0x00, 0x00, 0x37, 0x00, 0x37, 0x01,
 ];
 
-/// Commands and payloads. If the payload holds a reply, the row has the number of bytes that writing this reply gives. They are the first
-/// bytes of the payload.
+/// Commands and payloads. If a payload holds a reply, the third member of its row is the length of this reply when it is written again. The
+/// written bytes are the first bytes of the payload.
 const REPLIES: &[(u8, &[u8], Option<usize>)] = &[
     (0, &IDENTITY, Some(2 + 22)),
     (0, &NO_IDENTITY, None),
@@ -248,7 +248,7 @@ fn replies_are_read_and_written(rt: HostRuntime) -> Result<(), Fail> {
     Ok(())
 }
 
-/// Whether a payload holds a reply to a command with this code, this status and this content.
+/// Whether a payload holds a reply to `command`, with this response code, device status and content.
 fn says(
     command: u8,
     payload: &[u8],
@@ -291,7 +291,7 @@ fn replies_say_their_content(rt: HostRuntime) -> Result<(), Fail> {
     Ok(())
 }
 
-/// Each register, and the bytes that a write of `TAG` puts into the register, or `None` if the write does not set it.
+/// Each register, and the bytes that a write of `TAG` puts into the register, or `None` if the write does not set the register.
 const NAMED: &[(Register, Option<&[u8]>)] = &[
     (Register::Polling, None),
     (Register::Mode, None),
@@ -328,8 +328,8 @@ fn a_write_names_its_registers(rt: HostRuntime) -> Result<(), Fail> {
     Ok(())
 }
 
-/// Whether Command 22 with a long tag writes exactly this long tag, and whether a reply to Command 20 with this long tag is read as exactly
-/// this long tag.
+/// Whether a long tag is written and read unchanged: Command 22 must write exactly this long tag, and a reply to Command 20 must be read
+/// as exactly this long tag.
 fn is_long_tag(long_tag: [u8; 32]) -> Result<bool, Fail> {
     let mut payload = Payload::new();
     payload.extend_from_slice(&[0; 2]);

@@ -1,4 +1,4 @@
-//! The examples in doc comments. `tools/doc_examples.py` checks that the lines here are the same as there.
+//! The examples in doc comments. `tools/doc_examples.py` checks that these lines are the same as the lines of the doc comments.
 use hart_commands::{Reply, ReplyContent, Request};
 use hart_explain::{Pairs, Text, read_request, words};
 use hart_values::Payload;

@@ -11,7 +11,7 @@ pub fn write_faultless(chars: &mut [Char], bytes: &[u8]) -> Option<()> {
     Some(())
 }
 
-/// Returns the character of an item: the two hex digits of its byte and, after an exclamation mark, the two of its fault bits.
+/// Returns the character of an item: the two hex digits of its byte and, after a `!`, the two hex digits of its fault bits.
 fn char_of(item: &str) -> Option<Char> {
     let (byte, faults) = item.split_once('!').unwrap_or((item, "00"));
     let byte = u8::from_str_radix(byte, 16).ok()?;

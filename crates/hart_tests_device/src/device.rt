@@ -29,7 +29,7 @@ const BAD_DATE: &[u8] = &[
 /// A command, its data, and the payload of the reply.
 type Row<'a> = (u8, &'a [u8], &'a [u8]);
 
-/// What a new bench device replies, besides the replies that `hart answer` shows.
+/// What a new bench device replies, beyond the replies that the tests of `hart answer` show.
 const BENCH: &[Row] = &[
     (6, &[], &[0x05, 0x00]),
     (7, &[], &[0x00, 0x00, 0x00, 0x01]),
@@ -85,14 +85,14 @@ fn asked_at(
     Ok(device.receive(&request, process).ok_or("silence")?)
 }
 
-/// Whether a device replies as a row says.
+/// Whether a device replies to a request as its row says.
 fn replies(device: &mut Device<FieldRegisters>, row: &Row) -> Result<bool, Fail> {
     let (command, data, payload) = row;
     let reply = asked(device, *command, data)?;
     same_bytes(reply.payload(), payload)
 }
 
-/// Whether a write-protected bench device replies as a row says, leaves its counter unchanged, and stays protected.
+/// Whether a write-protected bench device replies to a request as its row says, leaves its counter unchanged, and stays protected.
 fn replies_protected(row: &Row) -> Result<bool, Fail> {
     let mut device = bench_device();
     device.protect(true);
@@ -111,13 +111,13 @@ fn requests_are_answered(rt: HostRuntime) -> Result<(), Fail> {
     Ok(())
 }
 
-/// Whether a command is unknown, so that no request has it.
+/// Whether a command is unknown: no request has this command.
 fn is_unknown(command: u8) -> bool {
     Request::read(command, &[]).err() == Some(ResponseCode::COMMAND_NOT_IMPLEMENTED)
 }
 
-/// Whether a bench device refuses a command as not implemented exactly if the command is unknown. The device is protected if the
-/// number of the command is even.
+/// Whether a bench device refuses a command as not implemented exactly if the command is unknown. For even commands the device is write
+/// protected.
 fn is_met_by_number(command: u8) -> Result<bool, Fail> {
     let mut device = bench_device();
     device.protect(command % 2 == 0);
@@ -135,7 +135,8 @@ fn unknown_commands_are_refused(rt: HostRuntime) -> Result<(), Fail> {
     Ok(())
 }
 
-/// Whether the reply to Command 48 has this device status and this check byte if the byte at `place` of the additional status is 1.
+/// Whether the reply to Command 48 has this device status and this check byte. The byte at `place` of the additional status is 1, and the
+/// others are 0.
 fn status_is(place: usize, status: u8, check: u8) -> Result<bool, Fail> {
     let mut process = bench::process();
     *process.additional_status.get_mut(place).ok_or("a place")? = 1;
@@ -145,7 +146,7 @@ fn status_is(place: usize, status: u8, check: u8) -> Result<bool, Fail> {
     same(&(shown, last), &(Some(status), Some(check)))
 }
 
-/// Places of bytes in the additional status, each with the device status and the check byte of the reply if that byte is 1.
+/// Places of bytes in the additional status. If the byte at the place is 1, the reply has this device status and this check byte.
 const STATUSES: &[(usize, u8, u8)] = &[
     (0, 0x10, 0x74),
     (5, 0x10, 0x74),

@@ -1,6 +1,6 @@
-//! The examples in doc comments. `tools/doc_examples.py` checks that the lines here are the same as there.
+//! The examples in doc comments. `tools/doc_examples.py` checks that these lines are the same as the lines of the doc comments.
 //!
-//! The values that an example takes as given are made above the example.
+//! The values that an example uses without defining them are defined above it.
 use crate::chars::chars_of_items;
 use hart_commands::Request;
 use hart_device::{Device, FieldRegisters, bench};

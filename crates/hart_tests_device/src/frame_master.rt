@@ -7,15 +7,15 @@ use std::test::Fail;
 mod bodies;
 mod steps;
 
-/// What a master has in hand, without the frame.
+/// What a master has in hand, without regard to the frame.
 #[derive(Clone, Copy, Debug, PartialEq, Eq)]
 enum Held {
     Empty,
-    /// A request that was sent this number of times.
+    /// A request that is due, and was sent this number of times.
     Due(u8),
-    /// A request that was sent this number of times, and the character times since.
+    /// A request that was sent this number of times and awaits its reply, and how many character times have passed since.
     Awaiting(u8, u8),
-    /// A request that was sent this number of times.
+    /// A request that was sent this number of times and was answered.
     Answered(u8),
 }
 
@@ -25,7 +25,7 @@ fn transaction_of(body: &[u8], sendings: u8) -> Result<FrameTransaction, Fail> {
     Ok(FrameTransaction { request, sendings })
 }
 
-/// Returns what is held, with the frame of this body.
+/// Returns what is in hand, with the frame of this body.
 fn hand_of(held: Held, body: &[u8]) -> Result<FrameHand, Fail> {
     Ok(match held {
         Held::Empty => FrameHand::Empty,
@@ -47,7 +47,7 @@ fn frame_in(hand: &FrameHand) -> Option<&Frame> {
     }
 }
 
-/// Returns what is held, without the frame.
+/// Returns what is in hand, without regard to the frame.
 fn held_in(hand: &FrameHand) -> Held {
     match hand {
         FrameHand::Empty => Held::Empty,
@@ -57,7 +57,7 @@ fn held_in(hand: &FrameHand) -> Held {
     }
 }
 
-/// Whether the readers of a master show that this is in hand, with this request.
+/// Whether the functions of a master show that `held` is in hand, with this request.
 fn shows(master: &FrameMaster, held: Held, request: &Frame) -> Result<bool, Fail> {
     let has_frame = held != Held::Empty;
     let is_due = matches!(held, Held::Due(_));
@@ -70,7 +70,7 @@ fn shows(master: &FrameMaster, held: Held, request: &Frame) -> Result<bool, Fail
     )
 }
 
-/// Retries and reply limits, and the fault with which they are refused, if they are refused.
+/// A number of retries, a reply limit, and the fault with which a master refuses these numbers, if any.
 const LIMITS: &[(u8, u8, Option<MasterFault>)] = &[
     (0, 1, None),
     (15, 255, None),
@@ -87,7 +87,7 @@ fn frame_masters_have_limits(rt: HostRuntime) -> Result<(), Fail> {
     Ok(())
 }
 
-/// Retries, what is in hand, and whether a master may have it.
+/// A number of retries, what is in hand, and whether a master with these retries may have that in hand.
 const HANDS: &[(u8, Held, bool)] = &[
     (3, Held::Empty, true),
     (0, Held::Due(0), true),
@@ -102,7 +102,7 @@ const HANDS: &[(u8, Held, bool)] = &[
     (3, Held::Answered(5), false),
 ];
 
-/// Whether a master with these retries has in hand what it is made with, or is refused.
+/// Whether a master with the retries and the hand of a row is made or refused, as the row says.
 fn is_made_or_refused(row: &(u8, Held, bool)) -> Result<bool, Fail> {
     let (retries, held, is_made) = *row;
     let (request, _) = decode(ASKS_128)?;
@@ -129,7 +129,7 @@ const REQUESTS: &[(&[u8], bool)] = &[
     (ANSWERS_128, false),
 ];
 
-/// Checks that a body counts as a request, and that a master takes it in hand, exactly if the row says so.
+/// Whether a body counts as a request, and a master takes it in hand, exactly if the row says so.
 fn is_told_and_taken(row: &(&[u8], bool)) -> Result<bool, Fail> {
     let (body, want) = *row;
     let (frame, _) = decode(body)?;
@@ -145,7 +145,7 @@ fn requests_of_a_master_are_told_from_other_frames(rt: HostRuntime) -> Result<()
     Ok(())
 }
 
-/// Bodies of requests, and the fault with which an idle master refuses each, if it refuses it.
+/// Bodies of requests, each with the fault with which an idle master refuses the request, if any.
 const SUBMISSIONS: &[(&[u8], Option<MasterFault>)] = &[
     (ASKS_128, None),
     (POLLS_33, None),
@@ -157,7 +157,7 @@ const SUBMISSIONS: &[(&[u8], Option<MasterFault>)] = &[
     (ALL_0, Some(MasterFault::WrongAddress)),
 ];
 
-/// Whether a master takes the request of this body, or refuses it with this fault and gives it back.
+/// Whether a master takes this request, or returns it with the fault `want`.
 fn submits(master: &mut FrameMaster, body: &[u8], want: Option<MasterFault>) -> Result<bool, Fail> {
     let (request, _) = decode(body)?;
     let (again, _) = decode(body)?;
@@ -172,8 +172,8 @@ fn submits(master: &mut FrameMaster, body: &[u8], want: Option<MasterFault>) -> 
     }
 }
 
-/// Whether a master with this in hand does with a submission what its row says. A refusal changes nothing. Once it is taken, another one is
-/// refused.
+/// Whether a master with `held` in hand takes or refuses a request as its row says. A refusal changes nothing. Once a request is taken,
+/// another request is refused.
 fn is_taken_or_refused(held: Held, row: &(&[u8], Option<MasterFault>)) -> Result<bool, Fail> {
     let (body, want) = *row;
     let mut master = FrameMaster::new(3, 41, hand_of(held, ASKS_128)?)?;
@@ -205,7 +205,7 @@ fn one_request_frame_is_taken(rt: HostRuntime) -> Result<(), Fail> {
     Ok(())
 }
 
-/// What is in hand if the master is not idle.
+/// What a master that is not idle can have in hand.
 const BUSY: &[Held] = &[Held::Due(0), Held::Due(3), Held::Awaiting(1, 32)];
 
 #[test]
@@ -222,7 +222,7 @@ fn a_busy_master_refuses_each_request(rt: HostRuntime) -> Result<(), Fail> {
 /// What a frame is to a request.
 #[derive(Clone, Copy, PartialEq, Eq)]
 enum Is {
-    /// No answer to it.
+    /// No answer to the request.
     Other,
     /// An answer that is not accepted.
     Answer,
@@ -250,7 +250,7 @@ const HEARD: &[(&[u8], &[u8], Is)] = &[
     (WRITES_19, ANSWERS_128, Is::Other),
 ];
 
-/// Whether a frame answers the request or not, and whether a master that awaits the reply accepts it or not.
+/// Whether a frame answers the request, and whether a master that awaits the reply accepts it, as the row says.
 fn is_heard(row: &(&[u8], &[u8], Is)) -> Result<bool, Fail> {
     let (asks, body, want) = *row;
     let (request, _) = decode(asks)?;

@@ -34,7 +34,7 @@ fn rejected_requests_have_the_text_of_the_fault(rt: HostRuntime) -> Result<(), F
     Ok(())
 }
 
-/// Retries and reply limits, and the fault with which they are refused, if they are refused.
+/// A number of retries, a reply limit, and the fault with which a master refuses these numbers, if any.
 const LIMITS: &[(u8, u8, Option<MasterFault>)] = &[
     (0, 1, None),
     (15, 255, None),
@@ -58,7 +58,7 @@ const DEVICE: &[u8] = &[0xB7, 0x42, 0x0A, 0x1B, 0x2C];
 
 const ALL: &[u8] = &[0x80, 0x00, 0x00, 0x00, 0x00];
 
-/// Address bytes, a command and its data, and the fault with which an idle master refuses the submission, if it refuses it.
+/// Address bytes, a command and its data, and the fault with which an idle master refuses the submission, if any.
 type Submission<'a> = (&'a [u8], u8, &'a [u8], Option<MasterFault>);
 
 const SUBMISSIONS: &[Submission] = &[
@@ -86,7 +86,7 @@ fn request_of(command: u8, data: &[u8]) -> Result<Request, Fail> {
     Ok(Request::read(command, data).ok().ok_or("bad data")?)
 }
 
-/// Whether a master refuses a second request, and gives it back.
+/// Whether a master refuses a second request, and returns it.
 fn refuses_another(master: &mut Master) -> Result<bool, Fail> {
     let second = master.submit(address_of(POLLING)?, Request::ReadPrimary);
     let rejected = second.err().ok_or("a second request")?;
@@ -96,8 +96,8 @@ fn refuses_another(master: &mut Master) -> Result<bool, Fail> {
     )
 }
 
-/// Whether an idle master does with a submission what its row says. Without a fault it takes the submission, and refuses another one. With
-/// a fault it refuses the submission with this fault, and stays idle.
+/// Whether an idle master takes or refuses a submission as its row says. If the row has no fault, the master takes the submission, and
+/// then refuses a second one. Otherwise it refuses the submission with the row's fault, and stays idle.
 fn is_taken_or_refused(submission: &Submission) -> Result<bool, Fail> {
     let (address, command, data, want) = *submission;
     let mut master = Master::new(MasterId::Secondary, 3, 41)?;
@@ -209,7 +209,7 @@ const WRITTEN: &[u8] = &[
     0x23, 0x45, 0x7F,
 ];
 
-/// The address bytes, the command and the data of a request, what is heard in two parts, and the payload of the reply that is accepted.
+/// A request by its address bytes, command and data. Then two parts that are heard, and the payload of the reply that is accepted, if any.
 struct Hearing<'a> {
     address: &'a [u8],
     command: u8,
@@ -219,7 +219,7 @@ struct Hearing<'a> {
     accepted: Option<&'a [u8]>,
 }
 
-/// A request to a polling address, after which nothing is heard. The rows say in what they differ.
+/// A request to a polling address, after which nothing is heard. Each row gives only what differs from this row.
 const TO_POLLING: Hearing = Hearing {
     address: POLLING,
     command: 0,
@@ -286,7 +286,7 @@ const HEARD: &[Hearing] = &[
     },
 ];
 
-/// Returns the characters of both parts that are heard, followed by zeros, 80 in all.
+/// Returns the characters of both parts, one after the other, and then zeros, 80 characters in all.
 fn heard(first: &[u8], second: &[u8]) -> Option<[Char; 80]> {
     let mut chars = [Char::new(0, 0)?; 80];
     write_faultless(&mut chars, first)?;
@@ -314,7 +314,7 @@ fn event_of(command: u8, payload: Option<&[u8]>) -> Result<MasterEvent, Fail> {
     Ok(answered.ok_or("either a code or content")?)
 }
 
-/// Whether a master accepts nothing before it sends, and exactly the wanted reply after it sent.
+/// Whether a master accepts nothing before it has sent the request, and exactly the wanted reply afterwards.
 fn accepts(row: &Hearing) -> Result<bool, Fail> {
     let chars = heard(row.first, row.second).ok_or("characters")?;
     let mut master = with_request(row.address, request_of(row.command, row.data)?)?;
@@ -371,7 +371,7 @@ const IDENTITIES: &[Given] = &[
     (19, &[0x00, 0x40, 0x01, 0x23, 0x45], None),
 ];
 
-/// Whether a reply yields the address in its row.
+/// Whether a reply gives the address in its row.
 fn gives_address(given: &Given) -> Result<bool, Fail> {
     let (command, payload, want) = *given;
     let reply = Reply::read(command, payload).ok_or("a reply")?;

@@ -3,8 +3,8 @@ use hart_frame::Char;
 use std::alloc::Global;
 use std::test::Fail;
 
-/// Returns the character whose fault bits are the high byte of `both` and whose byte is the low byte of `both`. Returns `None` if the high
-/// byte has a bit that is no fault bit.
+/// Returns the character whose byte is the low byte of `both`, and whose fault bits are the high byte. Returns `None` if the high byte has
+/// a bit that is no fault bit.
 pub fn char_of(both: u16) -> Option<Char> {
     let [faults, byte] = both.to_be_bytes();
     Char::new(byte, faults)

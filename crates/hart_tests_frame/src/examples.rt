@@ -1,6 +1,6 @@
-//! The examples in doc comments. `tools/doc_examples.py` checks that the lines here are the same as there.
+//! The examples in doc comments. `tools/doc_examples.py` checks that these lines are the same as the lines of the doc comments.
 //!
-//! The values that an example takes as given are made above the example.
+//! The values that an example uses without defining them are defined above it.
 use crate::frame::stream::heard;
 use hart_frame::*;
 use hart_values::{Address, MasterId, Payload};
@@ -9,7 +9,7 @@ use std::test::Fail;
 /// A message after another byte.
 const HEARD: &[u16] = &[0x55, 0xFF, 0xFF, 0x02, 0x80, 0x00, 0x00, 0x82];
 
-/// A message with another check byte.
+/// A message with a wrong check byte.
 const BAD_CHECK: &[u16] = &[0xFF, 0xFF, 0x02, 0x80, 0x00, 0x00, 0x83];
 
 #[test]

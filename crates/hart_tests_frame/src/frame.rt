@@ -10,8 +10,7 @@ use hart_rows::{exclusive_or, has_text, hold_ok, hold_same, same, same_bytes};
 use hart_values::{Address, MasterId};
 use std::test::Fail;
 
-/// A frame of the primary master with Command 0, by its parts: the length of its body, its kind, its address bytes, its expansion
-/// bytes and its payload.
+/// A frame of the primary master with Command 0: the length of its body, its kind, its address bytes, its expansion bytes and its payload.
 type Read<'a> = (usize, FrameKind, &'a [u8], &'a [u8], &'a [u8]);
 
 /// Bytes that begin with a body, with one more byte after it, and the frame in them.
@@ -67,7 +66,7 @@ fn is_read_as(frame: &Frame, read: &Read) -> Result<bool, Fail> {
     )
 }
 
-/// Whether bytes begin with the body of a frame with these parts.
+/// Whether bytes begin with the body of a frame that has these parts.
 fn begin_with(bytes: &[u8], read: &Read) -> Result<bool, Fail> {
     let (frame, len) = decode(bytes)?;
     let body = bytes.get(..len).ok_or("too long")?;
@@ -134,7 +133,7 @@ const REPLY: &[u8] = &[
     0x23, 0x45, 0x7F,
 ];
 
-/// Whether `encode` replaces `output` with this message, and leaves it unchanged for too few or too many preamble bytes.
+/// Whether `encode` writes this message over `output`, and leaves `output` unchanged if there are too few or too many preamble bytes.
 fn is_written_as(frame: &Frame, want: &[u8], output: &mut Message) -> Result<bool, Fail> {
     encode(frame, 5, output)?;
     let is_written = output.as_slice() == want;
@@ -205,7 +204,7 @@ fn the_longest_message_has_287_bytes(rt: HostRuntime) -> Result<(), Fail> {
     Ok(())
 }
 
-/// The lengths that are tried. Most of these are at or next to a multiple of 16.
+/// The lengths that are tried. Most lengths are multiples of 16, or one more or less.
 const CHECKED_LENGTHS: &[usize] = &[
     0,
     1,
@@ -228,7 +227,7 @@ const CHECKED_LENGTHS: &[usize] = &[
 
 const MOST_CHECKED: usize = 1000;
 
-/// Returns bytes of many values.
+/// Returns bytes with many different values.
 fn checked_bytes() -> [u8; MOST_CHECKED] {
     let mut bytes = [0; MOST_CHECKED];
     for (place, byte) in bytes.iter_mut().enumerate() {

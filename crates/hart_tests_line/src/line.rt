@@ -66,7 +66,7 @@ fn a_leg_is_displayed_by_its_word(rt: HostRuntime) -> Result<(), Fail> {
     Ok(())
 }
 
-/// Whether the address of each kind is read.
+/// Whether an address of each kind is read.
 fn addresses_are_read() -> Result<bool, Fail> {
     let polling = Address::polling(7)?;
     let unique = Address::unique(0x3F42, 0x0A1B2C)?;
@@ -80,8 +80,6 @@ fn each_word_is_read(rt: HostRuntime) -> Result<(), Fail> {
     assert!(rt; read_command(b"255") == Some(255));
     let data = read_data(b"01aB").ok_or("data")?;
     assert!(rt; data.as_slice() == [0x01, 0xAB].as_slice());
-    let item = leading_item(b"82!40FF").ok_or("item")?;
-    assert!(rt; (item.char.byte(), item.char.faults(), item.len) == (0x82, 0x40, 5));
     Ok(())
 }
 
@@ -157,8 +155,7 @@ fn is_read_as(alloc: Global, text: &[u8], want: Result<&str, usize>) -> Result<b
     }
 }
 
-/// Whether a line that submits this command without data is read if a request of the command may have no data, and is refused as a bad
-/// line otherwise.
+/// Whether a line that submits this command without data is read if the command needs no data, and is refused as a bad line otherwise.
 fn is_read_if_asked(alloc: Global, command: u8) -> Result<bool, Fail> {
     let text = format!(in alloc; "submit P 37420A1B2C {command}")?;
     let want = if Request::read(command, &[]).is_ok() {

@@ -1,6 +1,15 @@
-//! The examples in doc comments. `tools/doc_examples.py` checks that the lines here are the same as there.
+//! The examples in doc comments. `tools/doc_examples.py` checks that these lines are the same as the lines of the doc comments.
+use hart_text::{Digits, next_piece};
 use hart_values::{Address, MasterId, PackedText};
 use std::test::Fail;
+
+#[test]
+fn texts_have_pieces(rt: HostRuntime) -> Result<(), Fail> {
+    let lead = next_piece(&Digits::new(), b"82!40 FF").ok_or("no piece")?;
+    let char = lead.char.ok_or("no item")?;
+    assert!(rt; (char.byte(), char.faults(), lead.len) == (0x82, 0x40, 5));
+    Ok(())
+}
 
 #[test]
 fn values_have_bytes(rt: HostRuntime) -> Result<(), Fail> {

@@ -1,7 +1,7 @@
-//! The lines of texts and their words. In a text of 64 bytes and more, lines that end within the first 64 bytes are cut in another way than
-//! the others.
+//! The lines of texts and their words. In a text of at least 64 bytes, lines that end within the first 64 bytes are cut in a different way
+//! from the others.
 use hart_rows::{hold_ok, same_bytes, same_if_any, told};
-use hart_text::{Words, first_line};
+use hart_text::{Words, first_line, leading_item};
 use std::test::Fail;
 
 /// A text, and its lines as lists of their words.
@@ -15,7 +15,7 @@ const TEXTS: &[Row] = &[
     ("\tone  two \n three\t", &[&["one", "two"], &["three"]]),
     ("one\r\n\r\n\rtwo\r", &[&["one"], &[], &["\rtwo"]]),
     ("one\r\r\n", &[&["one\r"], &[]]),
-    // A word of 63 bytes, then one of 64 bytes, before the first line feed.
+    // A word of 63 bytes before the first line feed, and in the next row a word of 64 bytes.
     (
         "aaaaaaaaaabbbbbbbbbbccccccccccddddddddddeeeeeeeeeeffffffffffggg\nh i",
         &[
@@ -30,7 +30,7 @@ const TEXTS: &[Row] = &[
             &["h", "i"],
         ],
     ),
-    // The last of 64 bytes is a blank, a carriage return, and the only byte of a word.
+    // The last of the first 64 bytes is a blank, a carriage return, or the only byte of a word.
     (
         "aaaaaaaaaabbbbbbbbbbccccccccccddddddddddeeeeeeeeeeffffffffffggg hh\n",
         &[
@@ -65,7 +65,7 @@ fn has_words(line: Words, words: &[&str]) -> Result<bool, Fail> {
     told(rest.is_empty(), &words.len())
 }
 
-/// Returns the only one of some words, if there is one.
+/// Returns the word of a list, if the list has exactly one word.
 fn only<'a>(words: &[&'a str]) -> Option<&'a [u8]> {
     match words {
         [word] => Some(word.as_bytes()),
@@ -84,6 +84,13 @@ fn has_lines(text: &str, lines: &[&[&str]]) -> Result<bool, Fail> {
         rest = after;
     }
     told(rest.is_none(), &lines.len())
+}
+
+#[test]
+fn items_have_fault_bits(rt: HostRuntime) -> Result<(), Fail> {
+    let item = leading_item(b"82!40FF").ok_or("item")?;
+    assert!(rt; (item.char.byte(), item.char.faults(), item.len) == (0x82, 0x40, 5));
+    Ok(())
 }
 
 #[test]

@@ -1,14 +1,15 @@
-//! A call of hart_cli, which is made by the name of its function or by words of the command line.
+//! A call of hart_cli. The tests make it by its function, or by running `program` on the words of the command line.
 
 use hart_cli::{
-    CliFault, MasterWords, RequestWords, Sink, Source, answer, dump, encode_text, explain,
-    explain_json, explain_raw, explain_raw_json, master_by_words, request, serve, simulate,
+    CliFault, MasterWords, RequestWords, Sink, Source, Style, answer, dump, encode_text, explain,
+    master_by_words, request, serve, simulate,
 };
 use hart_frame::{LEAST_PREAMBLES, is_preamble_count};
 use std::alloc::{AllocError, Global};
 use std::test::Fail;
 
-/// A message to send, in the words of the command line. Empty DATA and 5 preamble bytes are left out of the command line.
+/// A message to send, in the words of the command line. The command line leaves out DATA if it is empty, and the number of preamble bytes
+/// if it is 5.
 #[derive(Clone, Copy)]
 pub struct Words<'a> {
     pub who: &'a str,
@@ -28,7 +29,7 @@ pub struct Named<'a> {
     pub preambles: u8,
 }
 
-/// What a master is given, in the words of the command line. Without a limit, the option is left out.
+/// The options of `hart master`, in the words of the command line. If `limit` is `None`, the command line leaves the option out.
 #[derive(Clone, Copy)]
 pub struct Asker<'a> {
     pub who: &'a str,
@@ -37,7 +38,7 @@ pub struct Asker<'a> {
     pub preambles: u8,
 }
 
-/// What `hart master` is given without options.
+/// The options that `hart master` uses if the command line gives none.
 pub const USUAL: Asker = Asker {
     who: "P",
     retries: 3,
@@ -45,7 +46,7 @@ pub const USUAL: Asker = Asker {
     preambles: 20,
 };
 
-/// A call and its arguments. The streams of the call are not included.
+/// A call and its arguments, but not its streams.
 #[derive(Clone, Copy)]
 pub enum Call<'a> {
     Dump,
@@ -56,12 +57,12 @@ pub enum Call<'a> {
     ExplainJson,
     /// `explain --raw --json`.
     ExplainRawJson,
-    /// With the word of an image, if one is given.
+    /// `answer`, with the word of an image if an image is given.
     Answer(Option<&'a str>),
-    /// With the word of an image, if one is given.
+    /// `serve`, with the word of an image if an image is given.
     Serve(Option<&'a str>),
     Master(Asker<'a>),
-    /// With the word of an image, if one is given.
+    /// `sim`, with the word of an image if an image is given.
     Simulate(Option<&'a str>),
     Encode(Words<'a>),
     Request(Named<'a>),
@@ -88,7 +89,7 @@ pub fn strings_of(alloc: Global, words: &[&str]) -> Result<Vec<String>, AllocErr
     Ok(strings)
 }
 
-/// Appends the option for a number of preamble bytes, unless the number is the least number, which is the default.
+/// Appends the option for a number of preamble bytes, unless the number is the default, which is the least number allowed.
 fn push_preambles(alloc: Global, words: &mut Vec<String>, preambles: u8) -> Result<(), AllocError> {
     if preambles == LEAST_PREAMBLES {
         return Ok(());
@@ -99,14 +100,14 @@ fn push_preambles(alloc: Global, words: &mut Vec<String>, preambles: u8) -> Resu
 }
 
 impl Named<'_> {
-    /// Appends the words of the command line.
+    /// Appends the words of this message to the words of the command line.
     fn push_to(self, alloc: Global, words: &mut Vec<String>) -> Result<(), AllocError> {
         push_preambles(alloc, words, self.preambles)?;
         push_words(alloc, words, &[self.who, self.address, self.command])?;
         push_words(alloc, words, self.fields)
     }
 
-    /// Makes the call of `request`.
+    /// Calls `request`.
     fn request<W: Sink>(self, alloc: Global, writer: &mut W) -> Result<Result<(), CliFault>, Fail> {
         if !is_preamble_count(self.preambles) {
             return Err("a number of preamble bytes".into());
@@ -123,7 +124,7 @@ impl Named<'_> {
 }
 
 impl Words<'_> {
-    /// Appends the words of the command line.
+    /// Appends the words of this message to the words of the command line.
     fn push_to(self, alloc: Global, words: &mut Vec<String>) -> Result<(), AllocError> {
         push_preambles(alloc, words, self.preambles)?;
         let all = [self.who, self.address, self.command, self.data];
@@ -131,7 +132,7 @@ impl Words<'_> {
         push_words(alloc, words, &all[..given])
     }
 
-    /// Makes the call of `encode_text`.
+    /// Calls `encode_text`.
     fn encode<W: Sink>(self, alloc: Global, writer: &mut W) -> Result<Result<(), CliFault>, Fail> {
         if !is_preamble_count(self.preambles) {
             return Err("a number of preamble bytes".into());
@@ -149,7 +150,7 @@ impl Words<'_> {
 }
 
 impl Asker<'_> {
-    /// Appends the words of the command line.
+    /// Appends the options of this master to the words of the command line.
     fn push_to(self, alloc: Global, words: &mut Vec<String>) -> Result<(), AllocError> {
         push_words(alloc, words, &["--who", self.who])?;
         push_number(alloc, words, "--retries", self.retries)?;
@@ -160,7 +161,7 @@ impl Asker<'_> {
         }
     }
 
-    /// Makes the call of `master`.
+    /// Calls `master`.
     fn serve<R: Source, W: Sink>(
         self,
         alloc: Global,
@@ -180,7 +181,7 @@ impl Asker<'_> {
     }
 }
 
-/// Appends an option that gives a number.
+/// Appends an option and its number.
 fn push_number(
     alloc: Global,
     words: &mut Vec<String>,
@@ -209,7 +210,7 @@ impl Call<'_> {
         }
     }
 
-    /// Returns the words of the command line that make the call.
+    /// Returns the words of the command line for this call.
     pub fn words(self, alloc: Global) -> Result<Vec<String>, AllocError> {
         let mut words = strings_of(alloc, &[self.subcommand()])?;
         self.push_rest(alloc, &mut words)?;
@@ -236,7 +237,7 @@ impl Call<'_> {
         }
     }
 
-    /// Makes the call by the name of its function.
+    /// Makes the call by its function.
     pub fn make<R: Source, W: Sink>(
         self,
         alloc: Global,
@@ -245,10 +246,10 @@ impl Call<'_> {
     ) -> Result<Result<(), CliFault>, Fail> {
         match self {
             Call::Dump => Ok(make_dump(alloc, reader, writer)),
-            Call::Explain => Ok(make_explain(alloc, reader, writer)),
-            Call::ExplainRaw => Ok(make_explain_raw(alloc, reader, writer)),
-            Call::ExplainJson => Ok(make_explain_json(alloc, reader, writer)),
-            Call::ExplainRawJson => Ok(make_explain_raw_json(alloc, reader, writer)),
+            Call::Explain => Ok(make_explain(alloc, Style::Words, false, reader, writer)),
+            Call::ExplainRaw => Ok(make_explain(alloc, Style::Words, true, reader, writer)),
+            Call::ExplainJson => Ok(make_explain(alloc, Style::Objects, false, reader, writer)),
+            Call::ExplainRawJson => Ok(make_explain(alloc, Style::Objects, true, reader, writer)),
             Call::Answer(image) => Ok(make_answer(alloc, image, reader, writer)),
             Call::Serve(image) => Ok(make_serve(alloc, image, reader, writer)),
             Call::Master(asker) => asker.serve(alloc, reader, writer),
@@ -259,10 +260,10 @@ impl Call<'_> {
     }
 }
 
-// Each call is made in a function of its own, without a contract. If one function made all calls, the proof of each call would
-// carry the contracts of all.
+// Each call has a function of its own, without a contract. If one function made all calls, the proof of each call would contain the
+// contracts of all calls.
 
-/// Makes the call of `dump`.
+/// Calls `dump`.
 fn make_dump<R: Source, W: Sink>(
     alloc: Global,
     reader: &mut R,
@@ -271,43 +272,18 @@ fn make_dump<R: Source, W: Sink>(
     dump(alloc, reader, writer)
 }
 
-/// Makes the call of `explain`.
+/// Calls `explain`.
 fn make_explain<R: Source, W: Sink>(
     alloc: Global,
+    style: Style,
+    is_raw: bool,
     reader: &mut R,
     writer: &mut W,
 ) -> Result<(), CliFault> {
-    explain(alloc, reader, writer)
+    explain(alloc, style, is_raw, reader, writer)
 }
 
-/// Makes the call of `explain_raw`.
-fn make_explain_raw<R: Source, W: Sink>(
-    alloc: Global,
-    reader: &mut R,
-    writer: &mut W,
-) -> Result<(), CliFault> {
-    explain_raw(alloc, reader, writer)
-}
-
-/// Makes the call of `explain_json`.
-fn make_explain_json<R: Source, W: Sink>(
-    alloc: Global,
-    reader: &mut R,
-    writer: &mut W,
-) -> Result<(), CliFault> {
-    explain_json(alloc, reader, writer)
-}
-
-/// Makes the call of `explain_raw_json`.
-fn make_explain_raw_json<R: Source, W: Sink>(
-    alloc: Global,
-    reader: &mut R,
-    writer: &mut W,
-) -> Result<(), CliFault> {
-    explain_raw_json(alloc, reader, writer)
-}
-
-/// Makes the call of `answer`.
+/// Calls `answer`.
 fn make_answer<R: Source, W: Sink>(
     alloc: Global,
     image: Option<&str>,
@@ -317,7 +293,7 @@ fn make_answer<R: Source, W: Sink>(
     answer(alloc, image, reader, writer)
 }
 
-/// Makes the call of `serve`.
+/// Calls `serve`.
 fn make_serve<R: Source, W: Sink>(
     alloc: Global,
     image: Option<&str>,
@@ -327,7 +303,7 @@ fn make_serve<R: Source, W: Sink>(
     serve(alloc, image, reader, writer)
 }
 
-/// Makes the call of `simulate`.
+/// Calls `simulate`.
 fn make_simulate<R: Source, W: Sink>(
     alloc: Global,
     image: Option<&str>,

@@ -1,4 +1,4 @@
-//! Makes a call on fake streams, by the name of its function and by words of the command line.
+//! Makes a call on fake streams, by its function or by running `program` on the words of the command line.
 
 use super::call::Call;
 use super::fakes::{ALL, After, Tape, Trickle};
@@ -7,8 +7,8 @@ use hart_rows::hold_ok;
 use std::alloc::Global;
 use std::test::Fail;
 
-/// The streams that a call is given. The reader returns spaces, then an input, and then what comes after the input. A read returns at most
-/// `most_read` bytes, and a write takes at most `most_written` bytes. The write with the number `fails_at`, counted from 0, fails.
+/// The streams of a call. The reader returns spaces, then an input, and then what `after` says. A read returns at most `most_read` bytes,
+/// and a write takes at most `most_written` bytes. The write with the number `fails_at`, counted from 0, fails.
 #[derive(Clone, Copy)]
 pub struct Given<'a> {
     pub spaces: usize,
@@ -43,7 +43,7 @@ impl<'a> Given<'a> {
         Trickle::new(alloc, self.fails_at, self.most_written)
     }
 
-    /// Returns the number of reads that it takes to read the whole input, including the read that finds its end.
+    /// Returns how many reads the whole input takes, including the read that finds the end of the input.
     fn reads(&self) -> usize {
         self.input
             .len()
@@ -64,8 +64,7 @@ pub const WRITE: Fault = (2, "write fault");
 
 pub const TOO_LONG: Fault = (3, "input too long");
 
-/// The fault and the text that are wanted of a call, and how often the call must read and write. `None` says that any number of reads or
-/// writes will do.
+/// The wanted result of a call: its fault, its text, and how often it reads and writes. `None` stands for any number of reads or writes.
 #[derive(Clone, Copy)]
 pub struct Wanted<'a> {
     pub fault: Fault<'a>,
@@ -74,7 +73,7 @@ pub struct Wanted<'a> {
     pub writes: Option<usize>,
 }
 
-/// What a call did. `number` is the number of its fault, or the status of `program`. `said` is the line of the fault, or all that
+/// What a call did. `number` is the number of its fault, or the exit status of `program`. `said` is the line of the fault, or all that
 /// `program` wrote to `errors`.
 #[derive(Drop)]
 pub struct Outcome {
@@ -85,7 +84,7 @@ pub struct Outcome {
 }
 
 impl Outcome {
-    /// Whether the outcome is the wanted outcome, with this number. Prints the outcome if it is not.
+    /// Whether the outcome has this number, and otherwise equals the wanted result. If not, prints the outcome.
     fn is(&self, rt: &impl Eprint, number: u8, wanted: &Wanted) -> bool {
         let is_wanted = self.number == number
             && is_line(self.said.taken(), wanted.fault.1)
@@ -119,7 +118,7 @@ fn is_line(line: &[u8], text: &str) -> bool {
     }
 }
 
-/// Makes a call by its name.
+/// Makes a call by its function.
 pub fn by_name(alloc: Global, call: Call, given: &Given) -> Result<Outcome, Fail> {
     let mut reader = given.reader();
     let mut output = given.writer(alloc);
@@ -137,7 +136,7 @@ pub fn by_name(alloc: Global, call: Call, given: &Given) -> Result<Outcome, Fail
     })
 }
 
-/// Runs `program` on words, with `said` as the writer for errors.
+/// Runs `program` on these words, with `said` as the writer for errors.
 pub fn by_words(alloc: Global, words: &[String], given: &Given, mut said: Trickle) -> Outcome {
     let mut reader = given.reader();
     let mut output = given.writer(alloc);
@@ -150,7 +149,7 @@ pub fn by_words(alloc: Global, words: &[String], given: &Given, mut said: Trickl
     }
 }
 
-/// Whether a call, made by its name on these streams, does what is wanted.
+/// Whether a call on these streams, made by its function, does what is wanted.
 pub fn does_by_name(
     rt: &impl Eprint,
     alloc: Global,
@@ -162,7 +161,7 @@ pub fn does_by_name(
     Ok(outcome.is(rt, wanted.fault.0, wanted))
 }
 
-/// Whether a call, made by its name and by its words on these streams, does what is wanted.
+/// Whether a call on these streams does what is wanted, both by its function and by running `program` on its words.
 pub fn does(
     rt: &impl Eprint,
     alloc: Global,
@@ -181,13 +180,14 @@ pub fn does(
     Ok(is_run && does_by_name(rt, alloc, call, given, wanted)?)
 }
 
-/// What a call reads, what it writes then, and its fault.
+/// An input, the text that a call writes for it, and the fault of the call.
 pub type Row<'a> = (&'a str, &'a str, Fault<'a>);
 
-/// The greatest numbers of bytes that a read returns. The numbers from 4 to 8 cut the second item of `FF FF!40` after each of its bytes.
+/// The sizes of a read: the maximum number of bytes that each read returns. The sizes 4 to 8 each end the first read of `FF FF!40` after
+/// a different byte of the second item.
 const PORTIONS: &[usize] = &[1, 2, 3, 4, 5, 6, 7, 8, 100, ALL];
 
-/// Whether a call does what a row says. `after` follows the row's input, and each size of a read in `PORTIONS` is tried. A call that
+/// Whether a call does what a row says, with each size of a read in `PORTIONS`. `after` says what follows the input of the row. A call that
 /// succeeds makes one read more than the input needs, and so finds the end of the input.
 pub fn does_as(
     rt: &impl Eprint,
@@ -217,7 +217,7 @@ pub fn does_as(
     Ok(true)
 }
 
-/// Fails the test unless a call does what each row of a table says. `after` is what follows each input.
+/// Fails the test unless a call does what each row of a table says. `after` says what follows each input.
 pub fn hold_rows(
     rt: &impl Eprint,
     alloc: Global,

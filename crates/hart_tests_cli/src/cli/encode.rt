@@ -1,4 +1,4 @@
-//! Words of a message to send.
+//! Tests of `encode`, which writes a message from words.
 
 use super::call::{Call, Words};
 use super::calls::{EMPTY, Fault, Given, NONE, Wanted, does};
@@ -6,7 +6,7 @@ use hart_rows::{hold_ok, text_of};
 use std::alloc::Global;
 use std::test::Fail;
 
-/// The words of a request for the identity at polling address 0. The rows say in what they differ.
+/// The words of a request for the identity at polling address 0. Each row states only how it differs from these words.
 const IDENTIFY: Words = Words {
     who: "P",
     address: "@0",
@@ -15,7 +15,7 @@ const IDENTIFY: Words = Words {
     preambles: 5,
 };
 
-/// Words of a message to send, and the message and the fault that are written for them.
+/// Words of a message to send, and the result: the message that `encode` writes, or its fault.
 struct Row<'a> {
     words: Words<'a>,
     text: &'a str,
@@ -153,7 +153,7 @@ const ROWS: &[Row] = &[
     },
 ];
 
-/// Whether words are written as this message, or refused with this fault. The call reads nothing.
+/// Whether `encode` writes the words as the message `text`, or refuses them with `fault`. The call must not read anything.
 fn is_written<'a>(
     rt: &impl Eprint,
     alloc: Global,
@@ -175,7 +175,7 @@ fn is_written<'a>(
     does(rt, alloc, Call::Encode(words), &given, &wanted)
 }
 
-/// Whether data of `len` bytes are written, or refused with this fault.
+/// Whether `encode` writes a message with `len` bytes of data, or refuses the data with `fault`.
 fn has_data(
     rt: &impl Eprint,
     alloc: Global,

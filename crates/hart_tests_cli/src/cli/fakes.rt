@@ -11,7 +11,7 @@ pub const ALL: usize = usize::MAX;
 /// What comes after the bytes of a [`Tape`].
 #[derive(Clone, Copy)]
 pub enum After {
-    /// The end.
+    /// The end of the input.
     End,
     /// A read that fails.
     Failure,
@@ -19,7 +19,7 @@ pub enum After {
     Spaces,
 }
 
-/// A reader that returns spaces, then its bytes, then what comes after them.
+/// A reader that returns spaces, then its bytes, and then what comes after them.
 #[derive(Drop)]
 pub struct Tape<'a> {
     spaces: usize,
@@ -31,7 +31,7 @@ pub struct Tape<'a> {
 }
 
 impl<'a> Tape<'a> {
-    /// Returns a reader that returns at most `most` bytes a read.
+    /// Returns a reader that returns at most `most` bytes per read.
     pub fn new(spaces: usize, bytes: &'a [u8], after: After, most: usize) -> Tape<'a> {
         Tape {
             spaces,
@@ -81,7 +81,7 @@ impl Source for Tape<'_> {
     }
 }
 
-/// A writer that keeps what it takes, and fails at one of its writes.
+/// A writer that keeps what it takes. It can fail at one of its writes.
 #[derive(Drop)]
 pub struct Trickle {
     taken: Vec<u8>,
@@ -92,8 +92,8 @@ pub struct Trickle {
 }
 
 impl Trickle {
-    /// Returns a writer that takes at most `most` bytes a write, and at least one. The write with the number `fails_at`, counted
-    /// from 0, fails; with `None` no write fails.
+    /// Returns a writer that takes at least one and at most `most` bytes per write. The write with the number `fails_at`, counted from 0,
+    /// fails; with `None` no write fails.
     pub fn new(alloc: Global, fails_at: Option<usize>, most: usize) -> Trickle {
         Trickle {
             taken: Vec::new(alloc),

@@ -1,7 +1,7 @@
-//! Makes each call once, by its name, and prints what the call returned.
+//! Makes each call once by its function, and prints the result.
 //!
-//! `tools/refused-growths.sh` runs this test again and again, and refuses a different allocation (a growth) each time. So only the calls
-//! may allocate here: inputs are constants, and texts go into an array.
+//! `tools/refused-growths.sh` runs this test many times, and each time refuses a different allocation (a growth). So only the calls may
+//! allocate here: inputs are constants, and texts go into an array.
 
 use super::call::{Call, Named, USUAL, Words};
 use super::images::NEW;
@@ -13,7 +13,7 @@ use hart_values::MasterId;
 use std::alloc::Global;
 use std::test::Fail;
 
-/// A script in which a reply is lost, noise is a garbled request, and two words are hex items.
+/// A script in which a reply is lost and a garbled request is heard as noise. Two of its words are hex items.
 const SCRIPT: &str = "submit P 37420A1B2C 19 012345\nsubmit S all 0\n\
     turn P ok lost\nturn P FFFF!40 ok\n\
     noise FFFF82B7420A1B2C13030123453C\nturn P ok ok\n";
@@ -62,10 +62,10 @@ const CALLS: &[(Call, &str, &str)] = &[
     ),
 ];
 
-/// How many bytes a text has at most.
+/// The size in bytes of the array for the text of a call.
 const ROOM: usize = 1024;
 
-/// Makes a call, and returns the number of its fault, or 0, and how many bytes it wrote.
+/// Makes a call. Returns the number of its fault, or 0 if there is no fault, and how many bytes the call wrote.
 fn made(alloc: Global, call: Call, input: &str) -> Result<(u8, usize), Fail> {
     let mut room = [0; ROOM];
     let mut output = Plain::new(&mut room[..]);
@@ -76,7 +76,7 @@ fn made(alloc: Global, call: Call, input: &str) -> Result<(u8, usize), Fail> {
     Ok((number, ROOM.saturating_sub(output.into_inner().len())))
 }
 
-/// Carries events out on the bench device, and returns the number of the fault, or 0.
+/// Carries out events with two masters and the bench device. Returns the number of the fault, or 0 if there is no fault.
 fn carried_out(alloc: Global, events: &[LineEvent]) -> Result<u8, MasterFault> {
     let primary = Master::new(MasterId::Primary, 3, 33)?;
     let secondary = Master::new(MasterId::Secondary, 3, 41)?;
@@ -85,7 +85,7 @@ fn carried_out(alloc: Global, events: &[LineEvent]) -> Result<u8, MasterFault> {
     Ok(number_of(&report))
 }
 
-/// Returns the number of a fault, or 0.
+/// Returns the number of the fault in a result, or 0 if there is no fault.
 fn number_of<T>(answered: &Result<T, LineFault>) -> u8 {
     match answered {
         Ok(_) => 0,
@@ -93,8 +93,8 @@ fn number_of<T>(answered: &Result<T, LineFault>) -> u8 {
     }
 }
 
-/// Reads the script, carries it out, and returns the fault numbers of both steps. If the reading was refused memory, the script is read
-/// again: no further growth is refused then.
+/// Reads the script, carries it out, and returns the fault numbers of both steps. If an allocation is refused while the script is read,
+/// reads the script again: a run refuses only one allocation.
 fn run_script(alloc: Global) -> Result<(u8, u8), Fail> {
     let read = read_script(alloc, SCRIPT.as_bytes());
     let number = number_of(&read);

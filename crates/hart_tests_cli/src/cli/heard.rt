@@ -3,18 +3,18 @@
 use super::call::Call;
 use super::calls::{EMPTY, Given, NONE, READ, Row, Wanted, does, does_as, hold_rows};
 use super::fakes::After;
-use hart_cli::{Plain, explain_raw};
+use hart_cli::{Plain, Style, explain};
 use hart_rows::worked::{HEARD, OWN, OwnRow, REPLY, REQUEST};
 use hart_rows::{hold_ok, same, text_of};
 use std::alloc::Global;
 use std::test::Fail;
 
-/// A message, and its line.
+/// A request for the identity, and the line that `dump` writes for it.
 pub const IDENTIFY: &str = "FF FF 02 80 00 00 82";
 
 pub const IDENTIFY_LINE: &str = "2 7 STX P 0 @0 - 0 -\n";
 
-/// The message of `IDENTIFY`, with the separator that makes its last item whole.
+/// The message of `IDENTIFY` and a separator. The separator makes the last item whole.
 pub const IDENTIFY_WHOLE: &str = "FF FF 02 80 00 00 82 ";
 
 /// What `explain` writes for the message of `IDENTIFY`.
@@ -22,12 +22,13 @@ pub const IDENTIFY_SAID: &str =
     "2-7: request of the primary master to the device at polling address 0, \
     Command 0, read unique identifier\n";
 
-/// A message of each master, and their lines.
+/// Two messages, one of each master, and the lines that `dump` writes for them.
 pub const TWO_MESSAGES: &str = "FF FF 02 80 00 00 82 FF FF 02 00 00 00 02";
 
 pub const TWO_LINES: &str = "2 7 STX P 0 @0 - 0 -\n9 14 STX S 0 @0 - 0 -\n";
 
-/// The beginning of a message with the byte count 255, and a whole message in its payload. Below is the line of the whole message.
+/// The beginning of a message with the byte count 255, and a whole message in its payload. The constant below is the line of the whole
+/// message.
 const FALSE_START: &str = "FF FF 82 B7 42 0A 1B 2C 13 FF FF FF FF FF FF 02 80 00 00 82";
 
 const INNER_LINE: &str = "15 20 STX P 0 @0 - 0 -\n";
@@ -54,8 +55,8 @@ const DUMPED: &[Row] = &[
     ("FF @a FF", "", (4, "bad hex at 3")),
 ];
 
-/// Inputs after which a read fails. An item is whole only if something follows its digits. A failed read does not count as something that
-/// follows. Bad hex before the failed read is reported first.
+/// Inputs after which a read fails. An item is whole only if a byte follows its digits, so a failed read makes no item whole. Bad hex
+/// before the failed read is reported first.
 const BROKEN_OFF: &[Row] = &[
     ("", "", READ),
     (IDENTIFY, "", READ),
@@ -68,7 +69,7 @@ const BROKEN_OFF: &[Row] = &[
     ("FF FF 02 80 00 00 82 8", IDENTIFY_LINE, READ),
 ];
 
-/// An input in which a part is repeated, and what is written for it.
+/// An input in which a part is repeated, and what `dump` writes for it.
 struct Long<'a> {
     prefix: &'a str,
     part: &'a str,
@@ -77,7 +78,7 @@ struct Long<'a> {
     text: &'a str,
 }
 
-/// Whether `dump` writes the wanted text for a long input, whatever the size of a read.
+/// Whether `dump` writes the wanted text for a long input, with each size of a read.
 fn is_dumped(rt: &impl Eprint, alloc: Global, long: &Long) -> Result<bool, Fail> {
     let input = text_of(alloc, long.prefix, long.part, long.times, long.suffix)?;
     does_as(
@@ -106,7 +107,7 @@ const LONG: &[Long] = &[
     },
 ];
 
-/// Like `is_dumped`, for an input that is read at once.
+/// Like `is_dumped`, with reads that return as much as they can.
 fn is_dumped_at_once(rt: &impl Eprint, alloc: Global, long: &Long) -> Result<bool, Fail> {
     let input = text_of(alloc, long.prefix, long.part, long.times, long.suffix)?;
     let given = Given {
@@ -139,7 +140,7 @@ const PREAMBLES: &[Long] = &[
     },
 ];
 
-/// Whether the longest message, with 20 preamble bytes, has its line.
+/// Whether `dump` writes the line of the longest message, which has 20 preamble bytes.
 fn is_longest_dumped(rt: &impl Eprint, alloc: Global) -> Result<bool, Fail> {
     let start = text_of(alloc, "", "FF", 20, "E28000000000000000 00FF")?;
     let input = text_of(alloc, start.as_str(), "00", 255, "9D")?;
@@ -201,14 +202,14 @@ const EXPLAINED: &[Row] = &[
         to the device at polling address 0, Command 0, read unique identifier\n",
         NONE,
     ),
-    // After one preamble byte comes what would be a whole body, and the message lies inside it.
+    // One preamble byte, what would be a whole body, and a message inside it.
     (
         "FF 82 B7 42 0A 1B 2C 13 09 FF FF 02 80 00 00 82 00 00 50",
         "11-16: request of the primary master to the device at polling address 0, \
         Command 0, read unique identifier\n",
         NONE,
     ),
-    // The line fell silent.
+    // A silence of the line.
     (
         "FF FF 82 B7 / FF FF 02 80 00 00 82",
         "2: no message: it ends before its byte count\n6-11: request of the primary master \
@@ -219,6 +220,13 @@ const EXPLAINED: &[Row] = &[
         "FF FF 02 80 00 00/82",
         "2: no message: it lacks 1 character, its check byte\n    seems: request of the primary master \
         to the device at polling address 0, Command 0, read unique identifier\n",
+        NONE,
+    ),
+    // A request that is sent again.
+    (
+        "FF FF 02 80 7D 00 FF FF FF 02 80 7D 00 FF",
+        "2-7: request of the primary master to the device at polling address 0, Command 125\n\
+        9-14: request of the primary master to the device at polling address 0, Command 125, sending 2\n",
         NONE,
     ),
     // A date.
@@ -243,17 +251,17 @@ fn what_was_heard_is_said_in_words(rt: HostRuntime) -> Result<(), Fail> {
     Ok(())
 }
 
-/// Texts that have no preamble byte if they are read as raw bytes. A raw input cannot have bad hex.
+/// Texts that have no preamble byte when they are read as raw bytes. A raw input cannot have bad hex.
 const SILENT: &[Row] = &[("", "", NONE), (IDENTIFY, "", NONE), ("0G!@/", "", NONE)];
 
 /// Texts after which a read fails.
 const RAW_BROKEN_OFF: &[Row] = &[(IDENTIFY, "", READ)];
 
-/// Whether `explain_raw` explains a message that is given as raw bytes.
+/// Whether `explain` explains a message that is given as raw bytes.
 fn is_said_of_raw_bytes(alloc: Global) -> Result<bool, Fail> {
     let mut reader = Plain::new(b"\xFF\xFF\x02\x80\x00\x00\x82".as_slice());
     let mut writer = Plain::new(Vec::new(alloc));
-    explain_raw(alloc, &mut reader, &mut writer)?;
+    explain(alloc, Style::Words, true, &mut reader, &mut writer)?;
     let said = writer.into_inner();
     same(&str::from_utf8(said.as_slice())?, &IDENTIFY_SAID)
 }
@@ -274,7 +282,7 @@ fn raw_bytes_are_said_in_words(rt: HostRuntime) -> Result<(), Fail> {
     Ok(())
 }
 
-/// Deliveries that are no list of items.
+/// Inputs that `answer` refuses, because they are no list of items.
 const NOT_ANSWERED: &[Row] = &[
     ("FF FF 0G", "", (4, "bad hex at 6")),
     ("02!08", "", (4, "bad hex at 0")),
@@ -282,7 +290,7 @@ const NOT_ANSWERED: &[Row] = &[
     ("@a FF FF", "", (4, "bad hex at 0")),
 ];
 
-/// Whether `answer` writes `reply` and a line feed for what is heard, or nothing if `reply` is empty.
+/// Whether `answer` writes `reply` and a line feed for the delivery `heard`. If `reply` is empty, `answer` must write nothing.
 fn is_answered(rt: &impl Eprint, alloc: Global, heard: &str, reply: &str) -> Result<bool, Fail> {
     let end = if reply.is_empty() { "" } else { "\n" };
     let line = format!(in alloc; "{reply}{end}")?;

@@ -1,4 +1,4 @@
-//! Calls with an image.
+//! Tests of calls with an image.
 
 use super::call::Call;
 use super::calls::{EMPTY, Fault, Given, NONE, Row, Wanted, does, hold_rows};
@@ -7,8 +7,8 @@ use hart_rows::hold_ok;
 use std::alloc::Global;
 use std::test::Fail;
 
-/// Images of version 1. Each device differs from a new device in one way: it is write protected, has the tag PUMP-101, has had a
-/// configuration change that both masters must still learn of, or has the greatest counter.
+/// Images of version 1. Each device differs from a new device in one way. The first is write protected. The second has the tag PUMP-101.
+/// The third has had a configuration change that both masters must still learn of. The last has the greatest counter.
 const PROTECTED: &str = "010001\
     820820820820820820820820820820820820820820820820820820820820820820820820820820820820\
     000000000000000004";
@@ -30,7 +30,7 @@ pub const NEW: &str = "020001\
     820820820820820820820820820820820820820820820820820820820820820820820820820820820820\
     0000000000002020202020202020202020202020202020202020202020202020202020202020000000";
 
-/// An image of version 1 of a new device, but with flags that do not exist.
+/// An image of version 1 of a new device, with flags that do not exist.
 const BAD_FLAGS: &str = "010001\
     820820820820820820820820820820820820820820820820820820820820820820820820820820820820\
     000000000000000008";
@@ -56,7 +56,7 @@ const TO_TAGGED: &[Row] = &[(
     NONE,
 )];
 
-/// The empty script, and its text for a device that starts from an image of version 1: the tag becomes the long tag.
+/// The empty script, and its text for a device that starts from an image of version 1. The text of the tag becomes the long tag.
 const MIGRATED: &[Row] = &[(
     "",
     "counter 0\nimage 020001\
@@ -96,7 +96,7 @@ const BAD_IMAGES: &[(&str, Fault)] = &[
     ("\u{e9}", (4, "bad hex at 0")),
 ];
 
-/// Whether a call reports the fault of its bad image before it reads anything. The input is bad too.
+/// Whether a call with a bad image reports the fault of the image before the call reads anything. The input is bad too.
 fn is_named(rt: &impl Eprint, alloc: Global, call: Call, fault: Fault) -> Result<bool, Fail> {
     let given = Given {
         input: "!",

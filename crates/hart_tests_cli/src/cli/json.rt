@@ -63,30 +63,30 @@ const LINES: &[Row] = &[
             \"problem\":null,\"answers\":null}\n",
         NONE,
     ),
-    // Every reason of a miss but one.
+    // Every reason of a miss except one.
     (
         "FF FF 02 80 7D 00 FF FF 02 00 00 00 02 FF FF 02!40 FF FF 82 B7 42 0A 1B 2C 13 03 01 23 46 3D FF FF 01 00 FF FF 0\
             A FF FF 06 80 00 01 FF FF 02 80",
         "{\"type\":\"message\",\"start\":2,\"stop\":7,\"kind\":\"request\",\"master\":\"primary\",\
             \"address\":\"@0\",\"burst\":false,\"expansion\":\"\",\"command\":125,\"command_name\":null,\
             \"data\":\"\",\"fields\":{},\"ignored\":\"\",\"problem\":null,\"sending\":1}\n\
-            {\"type\":\"miss\",\"place\":8,\"reason\":\"one_preamble\",\"seems\":{\"kind\":\"request\",\
+            {\"type\":\"miss\",\"start\":8,\"place\":8,\"reason\":\"one_preamble\",\"seems\":{\"kind\":\"request\",\
             \"master\":\"secondary\",\"address\":\"@0\",\"command\":0,\"command_name\":\"read unique identifier\"}}\n\
-            {\"type\":\"miss\",\"place\":15,\"reason\":\"faulty\",\"at\":15,\"faults\":\"40\",\"seems\":null}\n\
-            {\"type\":\"miss\",\"place\":18,\"reason\":\"bad_check\",\"at\":29,\"byte\":\"3D\",\"fits\":\"3E\",\
+            {\"type\":\"miss\",\"start\":15,\"place\":15,\"reason\":\"faulty\",\"at\":15,\"faults\":\"40\",\"seems\":null}\n\
+            {\"type\":\"miss\",\"start\":18,\"place\":18,\"reason\":\"bad_check\",\"at\":29,\"byte\":\"3D\",\"fits\":\"3E\",\
             \"seems\":{\"kind\":\"request\",\"master\":\"primary\",\"address\":\"37420A1B2C\",\"command\":19,\
             \"command_name\":\"write final assembly number\"}}\n\
-            {\"type\":\"miss\",\"place\":32,\"reason\":\"burst\",\"seems\":null}\n\
-            {\"type\":\"miss\",\"place\":36,\"reason\":\"bad_delimiter\",\"byte\":\"0A\",\"seems\":null}\n\
-            {\"type\":\"miss\",\"place\":39,\"reason\":\"short_reply\",\"byte_count\":1,\"seems\":{\"kind\":\"reply\",\
+            {\"type\":\"miss\",\"start\":32,\"place\":32,\"reason\":\"burst\",\"seems\":null}\n\
+            {\"type\":\"miss\",\"start\":36,\"place\":36,\"reason\":\"bad_delimiter\",\"byte\":\"0A\",\"seems\":null}\n\
+            {\"type\":\"miss\",\"start\":39,\"place\":39,\"reason\":\"short_reply\",\"byte_count\":1,\"seems\":{\"kind\":\"reply\",\
             \"master\":\"primary\",\"address\":\"@0\",\"command\":0,\"command_name\":\"read unique identifier\"}}\n\
-            {\"type\":\"miss\",\"place\":45,\"reason\":\"ends_before_byte_count\",\"seems\":null}\n",
+            {\"type\":\"miss\",\"start\":45,\"place\":45,\"reason\":\"ends_before_byte_count\",\"seems\":null}\n",
         NONE,
     ),
-    // The last reason.
+    // The remaining reason of a miss.
     (
         "FF FF 82 B7 42 0A 1B 2C 13 03 01 23",
-        "{\"type\":\"miss\",\"place\":2,\"reason\":\"missing\",\"count\":2,\"seems\":{\"kind\":\"request\",\
+        "{\"type\":\"miss\",\"start\":2,\"place\":2,\"reason\":\"missing\",\"count\":2,\"seems\":{\"kind\":\"request\",\
             \"master\":\"primary\",\"address\":\"37420A1B2C\",\"command\":19,\"command_name\":\"write final assembly number\"\
             }}\n",
         NONE,
@@ -110,7 +110,7 @@ const LINES: &[Row] = &[
             \"data\":\"\",\"fields\":{},\"ignored\":\"\",\"problem\":null,\"sending\":1}\n",
         NONE,
     ),
-    // A request of the other master, and a miss, in between.
+    // A request of the other master and a miss between a request and its repetition.
     (
         "FF FF 02 80 7D 00 FF FF FF 02 00 7D 00 7F FF FF 0A FF FF 06 80 7D 02 00 00 F9 FF FF 02 80 7D 00 FF",
         "{\"type\":\"message\",\"start\":2,\"stop\":7,\"kind\":\"request\",\"master\":\"primary\",\
@@ -119,7 +119,7 @@ const LINES: &[Row] = &[
             {\"type\":\"message\",\"start\":9,\"stop\":14,\"kind\":\"request\",\"master\":\"secondary\",\
             \"address\":\"@0\",\"burst\":false,\"expansion\":\"\",\"command\":125,\"command_name\":null,\
             \"data\":\"\",\"fields\":{},\"ignored\":\"\",\"problem\":null,\"sending\":1}\n\
-            {\"type\":\"miss\",\"place\":16,\"reason\":\"bad_delimiter\",\"byte\":\"0A\",\"seems\":null}\n\
+            {\"type\":\"miss\",\"start\":16,\"place\":16,\"reason\":\"bad_delimiter\",\"byte\":\"0A\",\"seems\":null}\n\
             {\"type\":\"message\",\"start\":19,\"stop\":26,\"kind\":\"reply\",\"master\":\"primary\",\
             \"address\":\"@0\",\"burst\":false,\"expansion\":\"\",\"command\":125,\"command_name\":null,\
             \"status\":\"0000\",\"response_code\":0,\"response\":\"success\",\"device_status\":[],\
@@ -148,7 +148,7 @@ const LINES: &[Row] = &[
             \"answers\":null}\n",
         NONE,
     ),
-    // A reply of another device, and one to another command.
+    // A reply of another device, and a reply to another command.
     (
         "FF FF 02 80 7D 00 FF FF FF 06 81 7D 02 00 00 F8 FF FF 02 80 7D 00 FF FF FF 06 80 7E 02 00 00 FA",
         "{\"type\":\"message\",\"start\":2,\"stop\":7,\"kind\":\"request\",\"master\":\"primary\",\
@@ -169,7 +169,7 @@ const LINES: &[Row] = &[
             \"answers\":null}\n",
         NONE,
     ),
-    // Another request in between.
+    // A different request of the same master between a request and its repetition.
     (
         "FF FF 02 80 7D 00 FF FF FF 02 80 7E 00 FC FF FF 02 80 7D 00 FF",
         "{\"type\":\"message\",\"start\":2,\"stop\":7,\"kind\":\"request\",\"master\":\"primary\",\
@@ -196,7 +196,7 @@ const LINES: &[Row] = &[
 const BROKEN_OFF: &[Row] = &[
     (
         IDENTIFY,
-        "{\"type\":\"miss\",\"place\":2,\"reason\":\"missing\",\"count\":1,\"seems\":{\"kind\":\"request\",\
+        "{\"type\":\"miss\",\"start\":2,\"place\":2,\"reason\":\"missing\",\"count\":1,\"seems\":{\"kind\":\"request\",\
             \"master\":\"primary\",\"address\":\"@0\",\"command\":0,\"command_name\":\"read unique identifier\"}}\n",
         READ,
     ),

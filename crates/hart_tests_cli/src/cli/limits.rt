@@ -10,8 +10,8 @@ use hart_rows::hold_ok;
 use std::alloc::Global;
 use std::test::Fail;
 
-/// A call, the number of spaces at the beginning of its input, the items after them, and what comes after the items; then the fault, and
-/// what is written.
+/// A call, and its input: a number of spaces, the items after them, and what comes after the items. Then the fault of the call, and what
+/// the call writes.
 struct Spaced<'a> {
     call: Call<'a>,
     spaces: usize,
@@ -21,7 +21,7 @@ struct Spaced<'a> {
     text: &'a str,
 }
 
-/// Inputs that are as long as they may be.
+/// Inputs of the greatest length.
 const LONGEST: &[Spaced] = &[
     Spaced {
         call: Call::Dump,
@@ -74,7 +74,7 @@ const LONGEST: &[Spaced] = &[
     },
 ];
 
-/// Longer inputs. Their last item counts as whole only if the byte after it still lies within the limit.
+/// Inputs longer than the limit. The last item of an input counts as whole only if the byte after the item is within the limit.
 const LONGER: &[Spaced] = &[
     Spaced {
         call: Call::Dump,
@@ -118,7 +118,7 @@ const LONGER: &[Spaced] = &[
     },
 ];
 
-/// Whether the input of a row is taken or refused as the row says.
+/// Whether a call accepts or refuses the input of a row, as the row says.
 fn has_its_length(rt: &impl Eprint, alloc: Global, row: &Spaced) -> Result<bool, Fail> {
     let given = Given {
         spaces: row.spaces,
@@ -151,10 +151,10 @@ fn longer_inputs_are_refused(rt: HostRuntime) -> Result<(), Fail> {
     Ok(())
 }
 
-/// How many reads of at most 64 bytes are enough to exceed the limit of an input, even if the first read returns fewer bytes.
+/// How many reads of 64 bytes it takes to exceed the limit of an input. The first read may return fewer bytes.
 const READS_TO_THE_LIMIT: usize = 16_385;
 
-/// Calls, what each reads before endless spaces, and what it writes.
+/// Calls, the input of each call before endless spaces, and what each call writes.
 const WITHOUT_END: &[Written] = &[
     (Call::Dump, "", ""),
     (Call::Dump, IDENTIFY_WHOLE, IDENTIFY_LINE),

@@ -1,23 +1,22 @@
-//! `master`: a master over many lines.
+//! Tests of `master`: a master over many lines.
 
 use super::call::{Asker, Call, USUAL};
-use super::calls::{
-    EMPTY, Fault, Given, NONE, READ, Row, WRITE, Wanted, does, does_by_name, hold_rows,
-};
-use super::fakes::{ALL, After};
+use super::calls::{EMPTY, Fault, Given, NONE, READ, Row, Wanted, does, hold_rows};
+use super::fakes::After;
+use super::sessions::{LongRow, hold_answers, hold_failed_writes, hold_long_rows};
 use hart_cli::INPUT_LIMIT;
 use hart_rows::hold_ok;
-use std::alloc::{AllocError, Global};
+use std::alloc::AllocError;
 use std::test::Fail;
 
-/// A master that sends a request again at most once, and 5 preamble bytes.
+/// A master with one retry and 5 preamble bytes.
 const SHORT: Asker = Asker {
     retries: 1,
     preambles: 5,
     ..USUAL
 };
 
-/// A request that is sent twice: the first reply is damaged, and the second one is accepted. Then nothing is in hand.
+/// A request that is sent twice. The first reply is damaged, and the master accepts the second reply. The master then has nothing in hand.
 const LIFE: Row = (
     "send\n\
     submit 37420A1B2C 19 012345\n\
@@ -60,11 +59,11 @@ const LIFE: Row = (
 const LINES: &[Row] = &[
     LIFE,
     ("", "", NONE),
-    // The last line needs no line feed. If it is empty, it does not count as a line.
+    // The last line needs no line feed. An empty text after the last line feed is no line.
     ("send", "-\n", NONE),
     ("send\n\r", "-\n", NONE),
     ("send\r\ntick 1\r", "-\n-\n", NONE),
-    // After the last sending a request is given up, and is sent no more.
+    // A request that is given up after its last sending, and is not sent again.
     (
         "submit @0 0\nsend\ntick 33\nsend\ntick 33\nsend\ntick 33\n",
         "ok\n\
@@ -76,7 +75,8 @@ const LINES: &[Row] = &[
         -\n",
         NONE,
     ),
-    // A reply to the other master, of another device or command, a request, and two messages are no reply.
+    // Frames that are no reply to the request: a reply to the other master, of another device or to another command; a request; two
+    // messages.
     (
         "submit 37420A1B2C 19 012345\nsend\n\
         heard FF FF 06 37 42 0A 1B 2C 13 05 00 40 01 23 45 7F\n\
@@ -94,7 +94,7 @@ const LINES: &[Row] = &[
         answered 1 0040012345\n",
         NONE,
     ),
-    // Any reply to a command that is not known counts, unless it has communication faults.
+    // The master accepts any reply to an unknown command, unless the reply has communication faults.
     (
         "submit 37420A1B2C 200 AA\nsend\n\
         heard FF FF 86 B7 42 0A 1B 2C C8 02 80 00 04\n\
@@ -167,13 +167,13 @@ const LINES: &[Row] = &[
         send FF FF FF FF FF 02 80 00 00 82\n",
         NONE,
     ),
-    // A known command goes only where it may be asked; any other one goes anywhere.
+    // The master takes a known command only for an address to which the command may be sent. It takes an unknown command for any address.
     (
         "submit @0 1\nsubmit all 0\nsubmit all 200\n",
         "refused: wrong address\nrefused: wrong address\nok\n",
         NONE,
     ),
-    // Spaces before and between words do not count.
+    // Spaces before and between words are ignored.
     ("  tick   1 \n submit  @0  0\n", "-\nok\n", NONE),
 ];
 
@@ -190,7 +190,7 @@ fn lines_are_answered_in_turn(rt: HostRuntime) -> Result<(), Fail> {
     Ok(())
 }
 
-/// What is answered before a read that fails: only whole lines.
+/// Inputs after which a read fails. The master answers only their whole lines.
 const BEFORE_FAILURE: &[Row] = &[
     ("", "", READ),
     ("send", "", READ),
@@ -211,7 +211,7 @@ fn whole_lines_are_answered_before_a_failure(rt: HostRuntime) -> Result<(), Fail
     Ok(())
 }
 
-/// What a master is given, its answers to a request that nobody replies to, and its fault.
+/// The options of a master, its lines, its answers, and the fault of the call. Nobody replies to the request.
 const SETTINGS: &[(Asker, &str, &str, Fault)] = &[
     (
         Asker {
@@ -269,86 +269,38 @@ fn settings_are_those_given(rt: HostRuntime) -> Result<(), Fail> {
     Ok(())
 }
 
-/// A number of spaces, the input after them, and the answers to both.
-const LONG: &[(usize, &str, &str)] = &[
+/// Lines about as long as the limit.
+const LONG: &[LongRow] = &[
     (INPUT_LIMIT - 4, "send\nsend\n", "-\n-\n"),
     (INPUT_LIMIT - 3, "send\nsend\n", "bad line: too long\n-\n"),
     (INPUT_LIMIT, "\n", "bad line: bad word 1\n"),
     (INPUT_LIMIT + 1, "", "bad line: too long\n"),
 ];
 
-/// Whether a master answers the spaces and the input of a row with the text of the row.
-fn says(rt: &impl Eprint, alloc: Global, row: &(usize, &str, &str)) -> Result<bool, Fail> {
-    let (spaces, input, text) = *row;
-    let given = Given {
-        spaces,
-        input,
-        ..EMPTY
-    };
-    let wanted = Wanted {
-        fault: NONE,
-        text,
-        reads: None,
-        writes: None,
-    };
-    does_by_name(rt, alloc, Call::Master(USUAL), &given, &wanted)
-}
-
 #[test]
 fn lines_of_a_master_have_a_longest_one(rt: HostRuntime) -> Result<(), Fail> {
-    for (number, row) in LONG.iter().enumerate() {
-        hold_ok(&rt, says(&rt, rt.alloc(), row), "row", number)?;
-    }
+    hold_long_rows(&rt, rt.alloc(), Call::Master(USUAL), LONG)?;
     Ok(())
 }
 
-/// Whether a failed write ends the call, after all bytes before it were written.
-fn ends_at(
-    rt: &impl Eprint,
-    alloc: Global,
-    most_read: usize,
-    fails_at: usize,
-) -> Result<bool, Fail> {
-    let text = "ok\n-\n-\n";
-    let given = Given {
-        input: "submit @0 0\ntick 1\nheard",
-        most_read,
-        most_written: 1,
-        fails_at: Some(fails_at),
-        ..EMPTY
-    };
-    let wanted = Wanted {
-        fault: WRITE,
-        text: text.get(..fails_at).ok_or("a write")?,
-        reads: None,
-        writes: Some(fails_at.saturating_add(1)),
-    };
-    does(rt, alloc, Call::Master(USUAL), &given, &wanted)
-}
+/// An input, and the answers of `master` to its lines.
+const FEW: (&str, &str) = ("submit @0 0\ntick 1\nheard", "ok\n-\n-\n");
 
 #[test]
 fn failed_writes_end_a_session(rt: HostRuntime) -> Result<(), Fail> {
-    for fails_at in 0..7 {
-        for most_read in [1, 3, ALL] {
-            hold_ok(
-                &rt,
-                ends_at(&rt, rt.alloc(), most_read, fails_at),
-                "write",
-                fails_at,
-            )?;
-        }
-    }
+    hold_failed_writes(&rt, rt.alloc(), Call::Master(USUAL), FEW)?;
     Ok(())
 }
 
-/// A request with the most data, its longest message, and a reply.
+/// Parts of the lines and answers of a request with the most data. They are the words before the data, the answers before the data, and the
+/// lines after the data.
 const LONGEST: (&str, &str, &str) = (
     "submit 37420A1B2C 200 ",
     "ok\nsend FF FF FF FF FF FF FF FF FF FF FF FF FF FF FF FF FF FF FF FF 82 B7 42 0A 1B 2C C8 FF ",
     "\nsend\nheard FF FF 86 B7 42 0A 1B 2C C8 02 00 00 84\n",
 );
 
-/// Appends a request with 255 bytes of data, each `AA`, and its answers.
+/// Appends to `input` the lines of a request with 255 bytes of data, each `AA`, and to `text` the master's answers to these lines.
 fn push_longest(input: &mut String, text: &mut String) -> Result<(), AllocError> {
     let (words, sent, later) = LONGEST;
     input.push_str(words)?;
@@ -361,7 +313,7 @@ fn push_longest(input: &mut String, text: &mut String) -> Result<(), AllocError>
     text.push_str("D7\nanswered 1 0000\n")
 }
 
-/// Reads many lines at once. The answers to them are longer than the text that is kept before a write.
+/// Reads many lines at once. Their answers are longer than the text that the call buffers.
 #[test]
 fn many_lines_of_a_master_are_read_at_once(rt: HostRuntime) -> Result<(), Fail> {
     let mut input = String::new(rt.alloc());
@@ -369,18 +321,12 @@ fn many_lines_of_a_master_are_read_at_once(rt: HostRuntime) -> Result<(), Fail> 
     for _ in 0..100 {
         push_longest(&mut input, &mut text)?;
     }
-    let given = Given {
-        input: input.as_str(),
-        ..EMPTY
-    };
-    let wanted = Wanted {
-        fault: NONE,
-        text: text.as_str(),
-        reads: None,
-        writes: None,
-    };
-    does(&rt, rt.alloc(), Call::Master(USUAL), &given, &wanted)?
-        .then_some(())
-        .ok_or("other lines")?;
+    hold_answers(
+        &rt,
+        rt.alloc(),
+        Call::Master(USUAL),
+        input.as_str(),
+        text.as_str(),
+    )?;
     Ok(())
 }

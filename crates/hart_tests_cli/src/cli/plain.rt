@@ -11,7 +11,7 @@ use std::io;
 use std::io::{ErrorKind, Read, Write};
 use std::test::Fail;
 
-/// Whether the function of a call, with a reader and a writer of the standard library, succeeds and writes exactly this text.
+/// Whether a call made by its function, on a reader and a writer of the standard library, succeeds and writes exactly this text.
 fn serves_by_name(alloc: Global, call: Call, input: &str, text: &str) -> Result<bool, Fail> {
     let mut output = Plain::new(Vec::new(alloc));
     let result = call.make(alloc, &mut Plain::new(input.as_bytes()), &mut output)?;
@@ -19,7 +19,7 @@ fn serves_by_name(alloc: Global, call: Call, input: &str, text: &str) -> Result<
     Ok(result.is_ok() && same(&str::from_utf8(output.as_slice())?, &text)?)
 }
 
-/// Whether `program`, on readers and writers of the standard library, writes a text, and nothing to `errors`.
+/// Whether `program`, on readers and writers of the standard library, succeeds, writes exactly this text, and writes nothing to `errors`.
 fn serves_by_words(alloc: Global, words: &[String], input: &str, text: &str) -> Result<bool, Fail> {
     let mut reader = Plain::new(input.as_bytes());
     let mut output = Plain::new(Vec::new(alloc));
@@ -34,15 +34,16 @@ fn serves_by_words(alloc: Global, words: &[String], input: &str, text: &str) -> 
     )
 }
 
-/// Whether a call on readers and writers of the standard library writes its text, by its name and by its words.
+/// Whether a call on a reader and a writer of the standard library writes its text, both by its function and by running `program` on its
+/// words.
 fn serves(alloc: Global, (call, input, text): &Written) -> Result<bool, Fail> {
     let words = call.words(alloc)?;
     let is_run = serves_by_words(alloc, words.as_slice(), input, text)?;
     Ok(is_run && serves_by_name(alloc, *call, input, text)?)
 }
 
-/// Whether a call whose output is a slice fills the slice with the beginning of its text, and ends with a write fault. A full slice takes
-/// no byte.
+/// Whether a call that writes to a slice fills it with the beginning of its text, and then ends with a write fault. A full slice takes no
+/// more bytes.
 fn fills_a_slice(alloc: Global, (call, input, text): &Written) -> Result<bool, Fail> {
     let mut room = [0; 25];
     let mut output = Plain::new(&mut room[..]);
@@ -61,7 +62,8 @@ fn readers_and_writers_of_the_standard_library_serve(rt: HostRuntime) -> Result<
     Ok(())
 }
 
-/// Counts its calls. Each call reads or writes all that it can, or is interrupted if `fails`.
+/// A reader and writer that counts its calls. If `fails` is true, each call is interrupted. Otherwise each call reads or writes all that it
+/// can.
 #[derive(Drop)]
 struct Counted {
     calls: u64,
@@ -110,7 +112,8 @@ fn writes_once(bytes: &[u8], fails: bool, want: Result<usize, Failed>) -> Result
     Ok(same(&written, &want)? && same(&writer.into_inner().calls, &1)?)
 }
 
-/// Whether a read and a write of `size` bytes make one inner call each. They succeed, or fail if the inner call is interrupted.
+/// Whether a read and a write of `size` bytes make one inner call each. If `fails` is true, the inner call is interrupted, and the read and
+/// the write fail.
 fn makes_one_call(alloc: Global, size: usize, fails: bool) -> Result<bool, Fail> {
     let want = if fails { Err(Failed) } else { Ok(size) };
     let mut bytes = vec![in alloc; 0; size]?;

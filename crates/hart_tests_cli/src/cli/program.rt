@@ -1,4 +1,4 @@
-//! Tests words that make no call, and a writer for errors that fails.
+//! Tests of words that make no call, and of a failing writer for errors.
 
 use super::call::strings_of;
 use super::calls::{EMPTY, Given, Outcome, by_words};
@@ -8,7 +8,7 @@ use hart_rows::hold_ok;
 use std::alloc::{AllocError, Global};
 use std::test::Fail;
 
-/// Words that make no call, and the beginning of the text that clap has for them.
+/// Words that make no call, and the beginning of clap's text for them.
 const NO_CALLS: &[(&[&str], &str)] = &[
     (&[], "Find, explain, write and answer HART messages"),
     (&["frob"], "error: unrecognized subcommand 'frob'\n"),
@@ -33,7 +33,7 @@ const NO_CALLS: &[(&[&str], &str)] = &[
     (&["encode", "P", "@0", "0", "--preambles", "21"], "error: "),
 ];
 
-/// Runs `program` on words and the input `!`. Each write to `errors` takes one byte. The write with the number `fails_at` fails.
+/// Runs `program` on these words, with the input `!`. Each write to `errors` takes one byte. The write with the number `fails_at` fails.
 fn run_on(alloc: Global, words: &[&str], fails_at: Option<usize>) -> Result<Outcome, AllocError> {
     let strings = strings_of(alloc, words)?;
     let given = Given {
@@ -48,7 +48,8 @@ fn run_on(alloc: Global, words: &[&str], fails_at: Option<usize>) -> Result<Outc
     ))
 }
 
-/// Whether words make no call, touch no stream, and are answered with a text that begins with `start`.
+/// Whether `program` makes no call for these words. It must read nothing, write no output, and write to `errors` a text that begins with
+/// `start`.
 fn make_no_call(
     rt: &impl Eprint,
     alloc: Global,
@@ -73,7 +74,7 @@ fn words_that_make_no_call_touch_no_stream(rt: HostRuntime) -> Result<(), Fail> 
     Ok(())
 }
 
-/// Words that the program refuses if the input is `!`, each with the status.
+/// Words that `program` refuses if the input is `!`, each with the exit status.
 const REFUSALS: &[(&str, u8)] = &[
     ("answer", FAULT),
     ("dump", FAULT),
@@ -82,8 +83,7 @@ const REFUSALS: &[(&str, u8)] = &[
     ("frob", NO_CALL),
 ];
 
-/// Lets the write to `errors` with this number fail. Returns whether the status stays the same, and the text is written up to the failed
-/// write.
+/// Whether the exit status stays the same if the write to `errors` with this number fails. The text before that write must be written.
 fn leaves_status(
     rt: &impl Eprint,
     alloc: Global,
@@ -100,7 +100,7 @@ fn leaves_status(
     Ok(holds)
 }
 
-/// Lets each write of a refusal's text fail in turn.
+/// Lets each write of a refusal's text fail in turn. Fails the test unless the exit status stays the same.
 fn fail_errors(rt: &impl Eprint, alloc: Global, refusal: (&str, u8)) -> Result<(), Fail> {
     let whole = run_on(alloc, &[refusal.0], None)?;
     let text = whole.said.taken();

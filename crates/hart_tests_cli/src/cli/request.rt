@@ -1,4 +1,4 @@
-//! Words of a request that name the fields of its data.
+//! Tests of `request`, whose words name the fields of the data.
 
 mod dates;
 mod refused;
@@ -9,7 +9,7 @@ use hart_rows::hold_ok;
 use std::alloc::Global;
 use std::test::Fail;
 
-/// Words of a request, and the message and the fault that are written for them.
+/// Words of a request, and the result: the message that `request` writes, or its fault.
 #[derive(Clone, Copy)]
 struct Row<'a> {
     who: &'a str,
@@ -21,7 +21,7 @@ struct Row<'a> {
     fault: Fault<'a>,
 }
 
-/// A request with Command 18 to the bench device, without fields. The rows say in what they differ.
+/// A request with Command 18 to the bench device, without fields. Each row states only how it differs from this request.
 const TO_DEVICE: Row = Row {
     who: "P",
     address: "37420A1B2C",
@@ -32,7 +32,7 @@ const TO_DEVICE: Row = Row {
     fault: NONE,
 };
 
-/// Texts and dates.
+/// Requests with fields of texts and of dates.
 const TEXTS: &[Row] = &[
     Row {
         fields: &["tag=FT-1204", "descriptor=FEED PUMP", "date=2026-11-27"],
@@ -146,7 +146,7 @@ const NUMBERS: &[Row] = &[
     },
 ];
 
-/// Whether the words of a row are written as a message, or refused with the row's fault. The call reads nothing.
+/// Whether `request` writes the words of a row as a message, or refuses them with the row's fault. The call must not read anything.
 fn is_written(rt: &impl Eprint, alloc: Global, row: Row) -> Result<bool, Fail> {
     let call = Call::Request(Named {
         who: row.who,

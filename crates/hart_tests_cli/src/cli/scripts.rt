@@ -9,8 +9,8 @@ use hart_rows::scripts::*;
 use std::alloc::{AllocError, Global};
 use std::test::Fail;
 
-/// A script, and the image of its device. Without an image the device is new. After these come the lines for what is spoken and for the
-/// outcomes of the submissions, and the state of the device at the end.
+/// A script, and the image of its device. Without an image the device is new. Then the lines that `simulate` writes for the sent messages
+/// and for the outcomes of the submissions, and the state of the device at the end.
 struct Script<'a> {
     image: Option<&'a str>,
     script: &'a str,
@@ -32,7 +32,7 @@ const NOTHING: Script = Script {
     flags: "00",
 };
 
-/// The state that a single write of 012345 leaves.
+/// The state after a single write of 012345.
 const WROTE: Script = Script {
     assembly: "012345",
     counter: 1,
@@ -47,7 +47,7 @@ const SPACES: &str =
 /// The long tag of a new device.
 const LONG_TAG: &str = "2020202020202020202020202020202020202020202020202020202020202020";
 
-/// Returns the text of a script.
+/// Returns the text that `simulate` writes for a script.
 fn written(alloc: Global, row: &Script) -> Result<String, AllocError> {
     let Script {
         lines,
@@ -173,7 +173,7 @@ P 20 82B7420A1B2C13030123453D\n\
     },
 ];
 
-/// Scripts of damaged messages, of a reset that names the counter, and of a restart.
+/// Scripts of damaged messages, of Command 38 with a counter value, and of a restart.
 const DAMAGED: &[Script] = &[
     Script {
         script: "submit P 37420A1B2C 19 012345\nturn P FFFF82!40B7420A1B2C13030123453D ok\nturn P ok ok",

@@ -1,14 +1,12 @@
-//! `serve`: a device over many deliveries.
+//! Tests of `serve`: a device over many deliveries.
 
 use super::call::Call;
-use super::calls::{
-    EMPTY, Fault, Given, NONE, READ, Row, WRITE, Wanted, does, does_by_name, hold_rows,
-};
-use super::fakes::{ALL, After};
+use super::calls::{EMPTY, Fault, Given, NONE, READ, Row, Wanted, does, hold_rows};
+use super::fakes::After;
 use super::images::NEW;
+use super::sessions::{LongRow, hold_answers, hold_failed_writes, hold_long_rows};
 use hart_cli::INPUT_LIMIT;
 use hart_rows::hold_ok;
-use std::alloc::Global;
 use std::test::Fail;
 
 /// A device that is written to, read, restarted, protected and written to again, with its image before and after.
@@ -50,27 +48,27 @@ const LINES: &[Row] = &[
     ("", "", NONE),
     ("\n", "-\n", NONE),
     ("\n\n\r\n \t\n", "-\n-\n-\n-\n", NONE),
-    // The last line needs no line feed. If it is empty, it does not count as a line.
+    // The last line needs no line feed. An empty text after the last line feed is no line.
     ("counter", "counter 0\n", NONE),
     ("counter\n", "counter 0\n", NONE),
     ("counter\n\r", "counter 0\n", NONE),
     // One carriage return at the end of a line is dropped.
     ("counter\r\nrestart\r", "counter 0\nok\n", NONE),
     ("counter\r\r\n", "bad line: bad hex at 0\n", NONE),
-    // A word counts only in its exact spelling.
+    // A word is recognized only if it is spelled exactly.
     (
         "Counter\n counter\ncounter \nprotect  on\nprotect\nrestart now\n",
         "bad line: bad hex at 0\nbad line: bad hex at 1\nbad line: bad hex at 0\n\
         bad line: bad hex at 0\nbad line: bad hex at 0\nbad line: bad hex at 0\n",
         NONE,
     ),
-    // A place is counted from the beginning of its line.
+    // The place of bad hex is counted from the beginning of its line.
     (
         "FF FF 02 8\nFF\tFF 0G\nFF!4\n82!8\ncounter\n",
         "bad line: bad hex at 9\nbad line: bad hex at 6\nbad line: bad hex at 0\nbad line: bad hex at 0\ncounter 0\n",
         NONE,
     ),
-    // A message has to stand in one line.
+    // A message must be in one line.
     ("FF FF 02 80\n00 00 82\n", "-\n-\n", NONE),
     // The device hears a character with fault bits, and replies with its communication faults.
     (
@@ -86,7 +84,7 @@ fn lines_are_served_in_turn(rt: HostRuntime) -> Result<(), Fail> {
     Ok(())
 }
 
-/// What is served before a read that fails: only whole lines.
+/// Inputs after which a read fails. The device answers only their whole lines.
 const BEFORE_FAILURE: &[Row] = &[
     ("", "", READ),
     ("counter", "", READ),
@@ -138,8 +136,8 @@ fn images_are_gone_on_from(rt: HostRuntime) -> Result<(), Fail> {
     Ok(())
 }
 
-/// A number of spaces, the input after them, and the device's answers to both.
-const LONG: &[(usize, &str, &str)] = &[
+/// Lines about as long as the limit, and longer lines.
+const LONG: &[LongRow] = &[
     (INPUT_LIMIT, "\ncounter\n", "-\ncounter 0\n"),
     (INPUT_LIMIT, "\r\ncounter\n", "-\ncounter 0\n"),
     (
@@ -167,71 +165,22 @@ const LONG: &[(usize, &str, &str)] = &[
     ),
 ];
 
-/// Whether a device answers the spaces and the input of a row with the text of the row.
-fn says(rt: &impl Eprint, alloc: Global, row: &(usize, &str, &str)) -> Result<bool, Fail> {
-    let (spaces, input, text) = *row;
-    let given = Given {
-        spaces,
-        input,
-        ..EMPTY
-    };
-    let wanted = Wanted {
-        fault: NONE,
-        text,
-        reads: None,
-        writes: None,
-    };
-    does_by_name(rt, alloc, Call::Serve(None), &given, &wanted)
-}
-
 #[test]
 fn lines_have_a_longest_one(rt: HostRuntime) -> Result<(), Fail> {
-    for (number, row) in LONG.iter().enumerate() {
-        hold_ok(&rt, says(&rt, rt.alloc(), row), "row", number)?;
-    }
+    hold_long_rows(&rt, rt.alloc(), Call::Serve(None), LONG)?;
     Ok(())
 }
 
-/// Whether a failed write ends the call, after all bytes before it were written.
-fn ends_at(
-    rt: &impl Eprint,
-    alloc: Global,
-    most_read: usize,
-    fails_at: usize,
-) -> Result<bool, Fail> {
-    let text = "counter 0\nok\n-\n";
-    let given = Given {
-        input: "counter\nrestart\n\n",
-        most_read,
-        most_written: 1,
-        fails_at: Some(fails_at),
-        ..EMPTY
-    };
-    let wanted = Wanted {
-        fault: WRITE,
-        text: text.get(..fails_at).ok_or("a write")?,
-        reads: None,
-        writes: Some(fails_at.saturating_add(1)),
-    };
-    does(rt, alloc, Call::Serve(None), &given, &wanted)
-}
+/// An input, and the answers of `serve` to its lines.
+const FEW: (&str, &str) = ("counter\nrestart\n\n", "counter 0\nok\n-\n");
 
 #[test]
 fn failed_writes_end_serving(rt: HostRuntime) -> Result<(), Fail> {
-    for fails_at in 0..15 {
-        for most_read in [1, 3, ALL] {
-            hold_ok(
-                &rt,
-                ends_at(&rt, rt.alloc(), most_read, fails_at),
-                "write",
-                fails_at,
-            )?;
-        }
-    }
+    hold_failed_writes(&rt, rt.alloc(), Call::Serve(None), FEW)?;
     Ok(())
 }
 
-/// Reads many lines at once. The answers to them are longer than the text that is kept before a write.
+/// Reads many lines at once. Their answers are longer than the text that the call buffers.
 #[test]
 fn many_lines_are_read_at_once(rt: HostRuntime) -> Result<(), Fail> {
     let mut input = String::new(rt.alloc());
@@ -242,18 +191,12 @@ fn many_lines_are_read_at_once(rt: HostRuntime) -> Result<(), Fail> {
         text.push_str(NEW)?;
         text.push_str("\nok\n")?;
     }
-    let given = Given {
-        input: input.as_str(),
-        ..EMPTY
-    };
-    let wanted = Wanted {
-        fault: NONE,
-        text: text.as_str(),
-        reads: None,
-        writes: None,
-    };
-    does(&rt, rt.alloc(), Call::Serve(None), &given, &wanted)?
-        .then_some(())
-        .ok_or("other lines")?;
+    hold_answers(
+        &rt,
+        rt.alloc(),
+        Call::Serve(None),
+        input.as_str(),
+        text.as_str(),
+    )?;
     Ok(())
 }

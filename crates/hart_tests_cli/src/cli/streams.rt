@@ -41,7 +41,7 @@ pub const AS_NEW: &str = "counter 0\nimage 020001\
     820820820820820820820820820820820820820820820820820820820820820820820820820820820820\
     0000000000002020202020202020202020202020202020202020202020202020202020202020000000\n";
 
-/// The texts that are written before a failed read. The number says how many bytes must have been read before the text is written.
+/// The texts that are written before a failed read. Each text comes with the number of bytes that must be read before it is written.
 type Lines<'a> = &'a [(usize, &'a str)];
 
 /// Calls that read, their inputs, and what they write if a read fails.
@@ -74,7 +74,7 @@ const FAILED_READS: &[(Call, &str, Lines)] = &[
     (Call::Simulate(None), "turn P ok ok\n", &[(0, "")]),
 ];
 
-/// Returns what is written before the read that fails after `bytes` bytes.
+/// Returns the text that must be written before a read fails after `bytes` bytes.
 fn written_before<'a>(lines: Lines<'a>, bytes: usize) -> &'a str {
     let mut text = "";
     for (from, more) in lines {
@@ -85,7 +85,7 @@ fn written_before<'a>(lines: Lines<'a>, bytes: usize) -> &'a str {
     text
 }
 
-/// Whether a call that reads a byte at a time reports the read that fails after `input`, and wrote `text` before it.
+/// Whether a call that reads one byte at a time reports the failed read after `input`. The call must have written `text` before.
 fn names_read(
     rt: &impl Eprint,
     alloc: Global,
@@ -114,7 +114,7 @@ fn names_read(
     )
 }
 
-/// Lets each read of an input fail in turn.
+/// Lets each read of an input fail in turn. Fails the test unless the call reports the failed read.
 fn fail_reads(
     rt: &impl Eprint,
     alloc: Global,
@@ -139,7 +139,8 @@ fn each_failed_read_is_named(rt: HostRuntime) -> Result<(), Fail> {
     Ok(())
 }
 
-/// Whether a call that writes a byte at a time reports that the write with this number failed, and wrote all bytes before it.
+/// Whether a call that writes one byte at a time reports the failure of the write with this number. The call must have written all bytes
+/// before it.
 fn names_write(
     rt: &impl Eprint,
     alloc: Global,
@@ -168,7 +169,7 @@ fn names_write(
     )
 }
 
-/// Lets each write of a text fail in turn.
+/// Lets each write of a text fail in turn. Fails the test unless the call reports the failed write.
 fn fail_writes(rt: &impl Eprint, alloc: Global, row: &Written) -> Result<(), Fail> {
     let (call, _, text) = *row;
     for write in 0..text.len() {
@@ -186,13 +187,13 @@ fn each_failed_write_is_named(rt: HostRuntime) -> Result<(), Fail> {
     Ok(())
 }
 
-/// A whole message inside the bytes that follow an earlier start. These bytes prove to be no frame.
+/// A whole message inside what could be an earlier message, until the check byte of the earlier one turns out wrong.
 const HELD_BACK: &str = "FF FF 02 80 00 08 FF FF 02 80 00 00 82 00 00 00 ";
 
 /// A single preamble byte, after which a longer body may begin, and a whole message inside that body.
 const OPEN_AFTER_ONE: &str = "FF 82 B7 42 0A 1B 2C 13 FF FF FF 02 80 00 00 82 ";
 
-/// A call, and the streams that it is given; then its fault, how often it reads and writes, and what it writes.
+/// A call, and its streams. Then the fault of the call, how often the call reads and writes, and what it writes.
 struct Order<'a> {
     call: Call<'a>,
     input: &'a str,
@@ -205,7 +206,7 @@ struct Order<'a> {
     text: &'a str,
 }
 
-/// An empty input that is read a byte at a time. The rows say in what they differ.
+/// An empty input that is read one byte at a time. Each row states only how it differs from this row.
 const BY_BYTES: Order = Order {
     call: Call::Dump,
     input: "",
@@ -218,7 +219,8 @@ const BY_BYTES: Order = Order {
     text: "",
 };
 
-/// Each call writes a line as soon as the line is decided, and makes no read after a fault or after the end of its input.
+/// The order of reads and writes. Each call writes a line as soon as the line is decided, and makes no read after a fault or after the end
+/// of its input.
 const ORDERS: &[Order] = &[
     Order {
         call: Call::Dump,

@@ -1,4 +1,4 @@
-//! Which device answers a request, at which address.
+//! Which devices answer a request, by its address.
 use super::*;
 use hart_values::{LoopMode, PackedText, PollingAddress, ValueFault};
 
@@ -25,7 +25,7 @@ fn address_of(asked: Asked) -> Result<Address, ValueFault> {
     }
 }
 
-/// Returns a master's request with this command to `asked`.
+/// Returns a master's request with this command to the given kind of address.
 pub(super) fn request_to(
     asked: Asked,
     master: MasterId,
@@ -67,13 +67,13 @@ fn device_of(values: Values) -> Result<Device<FieldRegisters>, Fail> {
     Ok(Device::new(bench::identity(), &held))
 }
 
-/// What a device holds, whom a request is for, its command and data, and the payload of the reply, if there is one.
+/// What a device holds; whom a request is for, its command and its data; and the payload of the reply, if there is one.
 type Row<'a> = (Values, Asked, u8, &'a [u8], Option<&'a [u8]>);
 
 /// The tag PUMP-101.
 const PUMP: [u8; 6] = [0x41, 0x53, 0x50, 0xB7, 0x1C, 0x31];
 
-/// Nine bytes of packed spaces: the tag of the bench device, which is six of them, and three more.
+/// Nine bytes of packed spaces. The first six are the tag of the bench device.
 const SPACES: &[u8] = &[0x82, 0x08, 0x20, 0x82, 0x08, 0x20, 0x82, 0x08, 0x20];
 
 /// The tag of the bench device without its last byte.
@@ -119,12 +119,13 @@ const ROWS: &[Row] = &[
     (Values::New, Asked::Own, 21, LAST_IS_ANOTHER, None),
 ];
 
-/// Whether a device replies as its row says, both if it is protected and if it is not.
+/// Whether a device replies as its row says, with write protection and without.
 fn answers_in_both(row: &Row) -> Result<bool, Fail> {
     Ok(answers(row, false)? && answers(row, true)?)
 }
 
-/// Whether a device, protected or not, replies as its row says, with the address of the request, and leaves its counter unchanged.
+/// Whether a device replies as its row says, with the address of the request, and leaves its counter unchanged. The argument `protected`
+/// says whether the device is write protected.
 fn answers(row: &Row, protected: bool) -> Result<bool, Fail> {
     let (values, asked, command, data, payload) = *row;
     let frame = request_to(asked, MasterId::Secondary, command, data)?;

@@ -1,4 +1,4 @@
-//! What a new bench device answers to a message that is cut, changed or damaged, and to noise.
+//! What a new bench device replies to a message that is cut, changed or damaged, and to noise.
 use super::images::{ENDING, IMAGE_2, image_with};
 use super::*;
 use crate::chars::write_faultless;
@@ -8,13 +8,13 @@ use hart_rows::exclusive_or;
 /// The place in an image where the final assembly number begins. A row of `EXCHANGES` writes this number.
 const ASSEMBLY: usize = 48;
 
-/// What stands in an image of a bench device: the final assembly number, and then the counter and the flags.
+/// The final assembly number in an image of a bench device, and then the counter and the flags of the image.
 type Held = ([u8; 3], [u8; 3]);
 
-/// What stands in the image of a new bench device.
+/// The final assembly number, the counter and the flags in the image of a new bench device.
 const UNCHANGED: Held = ([0; 3], [0; 3]);
 
-/// The message of a request, the message of its reply, and what stands in the image afterwards.
+/// The message of a request, the message of its reply, and what the image holds afterwards.
 struct Exchange<'a> {
     request: &'a [u8],
     reply: &'a [u8],
@@ -51,7 +51,7 @@ const EXCHANGES: &[Exchange] = &[
 /// How many characters the longer request has.
 pub(super) const MOST: usize = 17;
 
-/// How many of the five preamble bytes may be lost. The other two have to stand before the delimiter.
+/// How many of the five preamble bytes may be lost. The other two must stand before the delimiter.
 const SPARE: usize = 3;
 
 /// Each set of fault bits that is not empty.
@@ -66,8 +66,7 @@ fn chars_of(request: &[u8]) -> Option<[Char; MOST]> {
     Some(chars)
 }
 
-/// Whether a new bench device replies to a delivery with `reply`, or is silent if `reply` is empty, and whether its image then has
-/// `held`.
+/// Whether a new bench device sends `reply` after this delivery, or nothing if `reply` is empty, and whether its image then has `held`.
 fn leads_to(delivery: &[Char], reply: &[u8], held: Held) -> Result<bool, Fail> {
     let mut device = bench_device();
     let mut message = Message::new();
@@ -93,7 +92,8 @@ fn faulty_reply(address: u8, command: u8, status: u8) -> [u8; 16] {
     ]
 }
 
-/// Returns the communication-fault reply, if any, to the write request with another character at a place from `SPARE` on.
+/// Returns the communication-fault reply to the write request if its character at `place` is heard changed, or `None` if the device is
+/// silent. The place is at least `SPARE`.
 fn reply_to_change(place: usize, byte: u8, faults: u8) -> Option<[u8; 16]> {
     match (place, byte) {
         (11..=16, _) if faults != 0 => Some(faulty_reply(0xB7, 0x13, 0x80 | faults)),
@@ -105,9 +105,9 @@ fn reply_to_change(place: usize, byte: u8, faults: u8) -> Option<[u8; 16]> {
     }
 }
 
-/// Whether a request with one changed character has the effect that it must have. At the spare preamble bytes the change has no
-/// effect. At every later place the read request, which is for a polling address, gets no reply, and the write request gets a reply
-/// with its communication faults, or none.
+/// Whether a request with one changed character has the right effect. A change in the spare preamble bytes has no effect. With a change at
+/// any later place, the read request, which is for a polling address, gets no reply, and the write request gets a communication-fault reply
+/// or none.
 fn is_met_at(exchange: &Exchange, place: usize, byte: u8, faults: u8) -> Result<bool, Fail> {
     let mut chars = chars_of(exchange.request).ok_or("characters")?;
     let character = chars.get_mut(place).ok_or("a place")?;
@@ -124,7 +124,7 @@ fn is_met_at(exchange: &Exchange, place: usize, byte: u8, faults: u8) -> Result<
     leads_to(delivery, &[], UNCHANGED)
 }
 
-/// Whether the first `len` characters of a request lead to this reply, and whether the image of the device then has `held`.
+/// Whether a device that hears the first `len` characters of a request sends this reply, and whether its image then has `held`.
 fn lead_to(request: &[u8], len: usize, reply: &[u8], held: Held) -> Result<bool, Fail> {
     let chars = chars_of(request).ok_or("characters")?;
     leads_to(chars.get(..len).ok_or("too long")?, reply, held)
@@ -135,13 +135,13 @@ fn is_silent_before(exchange: &Exchange, place: usize) -> Result<bool, Fail> {
     lead_to(exchange.request, place, &[], UNCHANGED)
 }
 
-/// Whether a whole request leads to its reply.
+/// Whether a whole request gets its reply.
 fn is_met_whole(exchange: &Exchange) -> Result<bool, Fail> {
     let len = exchange.request.len();
     lead_to(exchange.request, len, exchange.reply, exchange.held)
 }
 
-/// Whether `is_met_at` holds of a request with each other byte at a place.
+/// Whether `is_met_at` is true of a request for each other byte at a place.
 fn is_met_with_other_bytes(exchange: &Exchange, place: usize, byte: u8) -> Result<bool, Fail> {
     let mut met = true;
     for change in 1..=255u8 {
@@ -150,7 +150,7 @@ fn is_met_with_other_bytes(exchange: &Exchange, place: usize, byte: u8) -> Resul
     Ok(met)
 }
 
-/// Whether `is_met_at` holds of a request with each set of fault bits at a place.
+/// Whether `is_met_at` is true of a request for each set of fault bits at a place.
 fn is_met_with_fault_bits(exchange: &Exchange, place: usize, byte: u8) -> Result<bool, Fail> {
     let mut met = true;
     for faults in FAULT_SETS {
@@ -159,8 +159,8 @@ fn is_met_with_fault_bits(exchange: &Exchange, place: usize, byte: u8) -> Result
     Ok(met)
 }
 
-/// Whether a request has the effect that it must have with each damage at a place: the request ends before the place, has another byte
-/// there, or has fault bits there.
+/// Whether a request has the right effect with each damage at a place: the request ends before the place, has another byte there, or has
+/// fault bits there.
 fn is_met_with_damage(exchange: &Exchange, place: usize, byte: u8) -> Result<bool, Fail> {
     let cut = is_silent_before(exchange, place)?;
     let other = is_met_with_other_bytes(exchange, place, byte)?;
@@ -168,7 +168,7 @@ fn is_met_with_damage(exchange: &Exchange, place: usize, byte: u8) -> Result<boo
     Ok(cut && other && faulty)
 }
 
-/// Fails the test unless `is_met_with_damage` holds at each place of a request.
+/// Fails the test unless `is_met_with_damage` is true at each place of a request.
 fn hold_places(rt: &impl Eprint, exchange: &Exchange) -> Result<(), Fail> {
     for (place, byte) in exchange.request.iter().enumerate() {
         let met = is_met_with_damage(exchange, place, *byte);
@@ -186,7 +186,7 @@ fn damage_is_borne_in_the_spare_preamble_alone(rt: HostRuntime) -> Result<(), Fa
     Ok(())
 }
 
-/// The write request with another check byte.
+/// The write request with a wrong check byte.
 const BAD_CHECK: &[u8] = &[
     0xFF, 0xFF, 0xFF, 0xFF, 0xFF, 0x82, 0xB7, 0x42, 0x0A, 0x1B, 0x2C, 0x13, 0x03, 0x01, 0x23, 0x45,
     0x3C,
@@ -197,12 +197,12 @@ const FAULTY: &[u8] = &[
     0xFF, 0xFF, 0xFF, 0xFF, 0xFF, 0x86, 0xB7, 0x42, 0x0A, 0x1B, 0x2C, 0x13, 0x02, 0x88, 0x00, 0xD7,
 ];
 
-/// Returns the characters of the write request with another check byte.
+/// Returns the characters of the write request with a wrong check byte.
 pub(super) fn garbled_write() -> Option<[Char; MOST]> {
     chars_of(BAD_CHECK)
 }
 
-/// Byte strings, how often each is repeated, and the fault bits of its characters.
+/// The parts of noise: bytes, how often they are repeated, and the fault bits of their characters.
 type Noise<'a> = &'a [(&'a [u8], usize, u8)];
 
 /// The body of a request for the identity at polling address 0.
@@ -220,7 +220,7 @@ const LONGEST: &[u8] = &[
 /// Two preamble bytes, and the body of the write request up to the end of its address.
 const TO_ADDRESS: &[u8] = &[0xFF, 0xFF, 0x82, 0xB7, 0x42, 0x0A, 0x1B, 0x2C];
 
-/// A write request of the secondary master with another check byte.
+/// A write request of the secondary master with a wrong check byte.
 const BAD_CHECK_OF_SECONDARY: &[u8] = &[
     0xFF, 0xFF, 0x82, 0x37, 0x42, 0x0A, 0x1B, 0x2C, 0x13, 0x03, 0x0A, 0x0B, 0x0C, 0xD6,
 ];
@@ -235,7 +235,7 @@ const VERTICAL: &[u8] = &[
     0xFF, 0xFF, 0xFF, 0xFF, 0xFF, 0x86, 0xB7, 0x42, 0x0A, 0x1B, 0x2C, 0x13, 0x02, 0xC0, 0x00, 0x9F,
 ];
 
-/// The message of the reply to the write request, if the request is heard with an overrun at the byte count and with another check byte.
+/// The message of the reply to the write request, if the request is heard with an overrun at the byte count and with a wrong check byte.
 const OVERRUN: &[u8] = &[
     0xFF, 0xFF, 0xFF, 0xFF, 0xFF, 0x86, 0xB7, 0x42, 0x0A, 0x1B, 0x2C, 0x13, 0x02, 0xA8, 0x00, 0xF7,
 ];
@@ -270,8 +270,8 @@ const NOISES: &[Delivered] = &[
     ),
 ];
 
-/// Garbled requests: requests with fault bits after their address or in it, the longest request, and the longest request without its last
-/// character.
+/// Garbled requests, with fault bits in or after their address or with a wrong check byte. Two are the longest request, with and without
+/// its last character.
 const GARBLED: &[Delivered] = &[
     (&[(BAD_CHECK, 1, 0)], FAULTY),
     (&[(BAD_CHECK_OF_SECONDARY, 1, 0)], FAULTY_TO_SECONDARY),
@@ -312,7 +312,7 @@ const GARBLED: &[Delivered] = &[
     (&[(FALSE_START, 1, 0), (&[0x00], 255, 0)], &[]),
 ];
 
-/// Garbled requests after noise, before noise, after another start, and beside a whole frame.
+/// Garbled requests after noise, before noise, after a false start, and beside a whole frame.
 const BESIDE: &[Delivered] = &[
     (&[(&[0x55, 0xFF, 0x00], 1, 0), (BAD_CHECK, 1, 0)], FAULTY),
     (&[(BAD_CHECK, 1, 0), (&[0x55], 100, 0)], FAULTY),
@@ -327,7 +327,7 @@ const BESIDE: &[Delivered] = &[
     ),
 ];
 
-/// Appends characters of these bytes, each with these fault bits.
+/// Appends the characters of these bytes, each with these fault bits.
 fn push_part(chars: &mut Vec<Char>, bytes: &[u8], faults: u8) -> Result<(), Fail> {
     for byte in bytes {
         chars.push(Char::new(*byte, faults).ok_or("faults")?)?;
@@ -346,7 +346,7 @@ fn chars_of_noise(alloc: Global, noise: Noise) -> Result<Vec<Char>, Fail> {
     Ok(chars)
 }
 
-/// Whether a new bench device replies to noise with this message, and nothing changes in its image.
+/// Whether a new bench device replies to noise with this message, and its image stays unchanged.
 fn noise_leads_to(alloc: Global, noise: Noise, reply: &[u8]) -> Result<bool, Fail> {
     let chars = chars_of_noise(alloc, noise)?;
     leads_to(chars.as_slice(), reply, UNCHANGED)

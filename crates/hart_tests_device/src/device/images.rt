@@ -81,7 +81,7 @@ const BAD_LENGTHS: &[(&[u8], DeviceFault)] = &[
     (&[0x03; 54], DeviceFault::BadVersion),
 ];
 
-/// Whether images of both versions are accepted as they are, and refused with the fault of a row once they hold the row's bytes.
+/// Whether the good image of each version is accepted, and is refused with the row's fault after the row's bytes are written into it.
 fn is_refused(row: &BadImage) -> Result<bool, Fail> {
     let (bytes, first, second, fault) = *row;
     Ok(
@@ -90,7 +90,7 @@ fn is_refused(row: &BadImage) -> Result<bool, Fail> {
     )
 }
 
-/// Whether an image is accepted as it is, and refused with this fault once it holds these bytes from a place on.
+/// Whether an image is accepted, and is refused with this fault after these bytes are written into it from `place` on.
 fn is_refused_with<const N: usize>(
     image: [u8; N],
     place: usize,
@@ -138,8 +138,8 @@ const GOES_ON: &[GoesOn] = &[
     ),
 ];
 
-/// Whether a device that starts from the image of a row does as the row says, and whether another device can start from the image of that
-/// device.
+/// Whether a device that starts from the image of a row does as the row says. Afterwards a second device must be able to start from the
+/// image of the first.
 fn goes_on<S: RegisterStore + Drop>(row: &GoesOn) -> Result<bool, Fail> {
     let (before, payload, after) = row;
     let image = image_with(IMAGE_2, ENDING, before);
@@ -164,17 +164,17 @@ fn devices_go_on_from_their_images(rt: HostRuntime) -> Result<(), Fail> {
     Ok(())
 }
 
-/// Returns the image of a device that starts from an image.
+/// Returns the image of a device made from `image`.
 fn image_after<S: RegisterStore + Drop>(image: &[u8]) -> Result<Image, DeviceFault> {
     Ok(Device::<S>::from_image(bench::identity(), image)?.image())
 }
 
-/// Whether a device that starts from `image` has the image `other`.
+/// Whether a device made from `image` has the image `other`.
 fn has_image<S: RegisterStore + Drop>(image: &[u8], other: &[u8]) -> Result<bool, Fail> {
     same_bytes(image_after::<S>(image)?.as_slice(), other)
 }
 
-/// Whether, for each kind of store, a device that starts from `image` has the image `other`.
+/// Whether a device made from `image` has the image `other`, with each kind of store.
 fn have_image(image: &[u8], other: &[u8]) -> Result<bool, Fail> {
     Ok(has_image::<FieldRegisters>(image, other)? && has_image::<ImageRegisters>(image, other)?)
 }
@@ -196,14 +196,14 @@ const MIGRATED: &[Migrated] = &[
     (53, &[0x07], b"        "),
 ];
 
-/// Returns the version 2 image of a device that started from a version 1 image. The long tag of the device is this text and spaces.
+/// Returns the version 2 image of a device made from a version 1 image. The long tag of the device is this text and spaces.
 fn migrated(image: &[u8; 54], text: &[u8; 8]) -> [u8; 86] {
     let held = image_with(IMAGE_2, 1, &image[1..51]);
     let tagged = image_with(held, LONG_TAG, text);
     image_with(tagged, ENDING, &image[51..54])
 }
 
-/// Returns a long tag of 32 bytes. The first byte is `32 * group`, and each further byte is greater by one than the byte before it.
+/// Returns a long tag of 32 bytes. The first byte is `32 * group`, and each further byte is one more than the byte before it.
 fn long_tag_of(group: u8) -> [u8; 32] {
     let mut long_tag = [0; 32];
     let mut next = group.wrapping_mul(32);
@@ -214,13 +214,13 @@ fn long_tag_of(group: u8) -> [u8; 32] {
     long_tag
 }
 
-/// Whether devices that start from an image with the long tag of a group keep that image.
+/// Whether devices made from an image with the long tag of a group keep that image.
 fn keep_long_tag(group: u8) -> Result<bool, Fail> {
     let image = image_with(IMAGE_2, LONG_TAG, &long_tag_of(group));
     have_image(&image, &image)
 }
 
-/// Whether devices that start from the version 1 image of a row have the version 2 image that results.
+/// Whether devices made from the version 1 image of a row have the version 2 image that results.
 fn migrate(row: &Migrated) -> Result<bool, Fail> {
     let (place, bytes, text) = *row;
     let image = image_with(IMAGE_1, place, bytes);

@@ -5,8 +5,8 @@ use super::*;
 use hart_values::EachMaster;
 use std::process::Abort;
 
-/// Whether a device is protected, whom the requests are for, their first and last command, their data, and the status bytes of the
-/// first reply to each command after a restart.
+/// Whether a device is write protected. Then whom the requests are for, their first and last command, and their data. Then the status bytes
+/// of the first reply to each command after a restart.
 type Row<'a> = (bool, Asked, [u8; 2], &'a [u8], [u8; 2]);
 
 /// The tag of the bench device.
@@ -67,7 +67,7 @@ fn first_two(payload: &[u8]) -> Option<[u8; 2]> {
     }
 }
 
-/// Returns the status bytes of the device's reply to a master's request, if it replies.
+/// Returns the status bytes of the device's reply to a master's request, if the device replies.
 fn status_bytes(
     device: &mut Device<FieldRegisters>,
     master: MasterId,
@@ -101,15 +101,15 @@ fn restarted_device(
     Ok(device)
 }
 
-/// Whether a device replies to a garbled request with its communication faults.
+/// Whether a device replies to a garbled request with the communication faults of this request.
 fn replies_with_faults(device: &mut Device<FieldRegisters>) -> Result<bool, Fail> {
     let garbled = garbled_write().ok_or("characters")?;
     let reply = device.hear(&garbled, &bench::process()).ok_or("silence")?;
     Ok(reply.payload() == [0x88, 0x00].as_slice())
 }
 
-/// Whether a device shows a cold start to the primary master in the first of two replies, but not in the second, and afterwards shows the
-/// cold start to the secondary master.
+/// Whether the first of two replies to the primary master shows a cold start, and the second does not. Afterwards a reply to the secondary
+/// master must show the cold start.
 fn is_shown_once(
     device: &mut Device<FieldRegisters>,
     row: &Row,
@@ -137,8 +137,8 @@ fn kept(device: &Device<FieldRegisters>) -> Result<Device<FieldRegisters>, Fail>
     Ok(other)
 }
 
-/// Whether a device shows a cold start once after a restart, for each command of a row, and keeps its protection. A device that starts from
-/// the image and the cold start bits of the first device must do the same.
+/// Whether a device shows a cold start once after a restart, for each command of a row, and stays protected or unprotected. A device made
+/// from its image and its cold start bits must do the same.
 fn is_shown_after_restart(rt: &(impl Abort + Eprint), row: &Row) -> Result<bool, Fail> {
     let (protected, _, [first, last], ..) = *row;
     let mut shown = true;

@@ -1,10 +1,9 @@
-//! What a device replies to successive writes, and the value of its counter after each write.
+//! The replies of a device to successive writes, and its counter after each write.
 use super::addresses::{Asked, request_to};
 use super::*;
 use hart_commands::Register;
 
-/// A command and its data, and the payload of the reply. Then the counter after the reply, and whether each master's configuration-changed
-/// bit is set after the reply.
+/// A command and its data, and the payload of the reply. Then the counter and each master's configuration-changed bit after the reply.
 struct Step<'a> {
     command: u8,
     data: &'a [u8],
@@ -23,7 +22,7 @@ const LONG_TAG: &[u8] = &[
     0xFF, 0xFF,
 ];
 
-/// What the primary master asks of the device, step by step, after the device's counter has gone round to 0.
+/// What the primary master asks of the device, step by step, after the counter has passed 65535 and is 0 again.
 const STEPS: &[Step] = &[
     Step {
         command: 19,
@@ -86,7 +85,7 @@ fn device_gone_round() -> Result<Device<FieldRegisters>, Fail> {
     Ok(device)
 }
 
-/// Whether a device replies as a step says, and then has the counter and the changed bits of the step.
+/// Whether a device replies as a step says, and then has the step's counter and configuration-changed bits.
 fn takes(device: &mut Device<FieldRegisters>, step: &Step) -> Result<bool, Fail> {
     let reply = asked(device, step.command, step.data)?;
     let [primary, secondary] = step.changed;
@@ -98,7 +97,7 @@ fn takes(device: &mut Device<FieldRegisters>, step: &Step) -> Result<bool, Fail>
     )
 }
 
-/// Whether a device is silent to a broadcast command with the long tag that the device had before its writes.
+/// Whether a device is silent to a broadcast command with the long tag that it had before its writes.
 fn is_silent_to_former(device: &mut Device<FieldRegisters>, command: u8) -> Result<bool, Fail> {
     let former = request_to(Asked::All, MasterId::Primary, command, &[0x20; 32])?;
     Ok(device.receive(&former, &bench::process()).is_none())

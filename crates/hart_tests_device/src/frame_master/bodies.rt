@@ -23,13 +23,13 @@ pub const ALL_11: &[u8] = &[
     0x82, 0x80, 0x00, 0x00, 0x00, 0x00, 0x0B, 0x06, 0x41, 0x53, 0x50, 0xB7, 0x1C, 0x31, 0xD7,
 ];
 
-/// Frames like `ASKS_128` that a master does not send: one with the burst bit, and one with an expansion byte.
+/// Frames like `ASKS_128` that no master sends: one with the burst bit, and one with an expansion byte.
 pub const BURST_ASKS: &[u8] = &[0x82, 0xF7, 0x42, 0x0A, 0x1B, 0x2C, 0x80, 0x00, 0x8A];
 
 pub const EXPANDED_ASKS: &[u8] = &[0xA2, 0xB7, 0x42, 0x0A, 0x1B, 0x2C, 0x55, 0x80, 0x00, 0xBF];
 
-/// The device's reply to `ASKS_128`. Then come frames that differ from it: in the master, in the command, in the device id, in the burst
-/// bit, by an expansion byte, by communication faults, and by response code 32 without data.
+/// The device's reply to `ASKS_128`. Then frames that differ from this reply in one way. They have another master, command or device id,
+/// the burst bit, an expansion byte, communication faults, or response code 32 without data.
 pub const ANSWERS_128: &[u8] = &[
     0x86, 0xB7, 0x42, 0x0A, 0x1B, 0x2C, 0x80, 0x03, 0x00, 0x40, 0x55, 0xD8,
 ];
@@ -62,7 +62,7 @@ pub const BUSY_128: &[u8] = &[
     0x86, 0xB7, 0x42, 0x0A, 0x1B, 0x2C, 0x80, 0x02, 0x20, 0x00, 0xEC,
 ];
 
-/// Replies to `POLLS_33`: of polling address 0, and of polling address 1.
+/// Replies to `POLLS_33`, from polling address 0 and from polling address 1.
 pub const ANSWERS_33: &[u8] = &[0x06, 0x80, 0x21, 0x03, 0x00, 0x40, 0x00, 0xE4];
 
 pub const POLLED_1: &[u8] = &[0x06, 0x81, 0x21, 0x03, 0x00, 0x40, 0x00, 0xE5];

@@ -18,7 +18,7 @@ enum Call<'a> {
     Receive(&'a [u8]),
 }
 
-/// A call, the event that it returns, and what is in hand then. `sent` returns none.
+/// A call, the event that it returns, and what is in hand afterwards. `sent` returns no event.
 type Step<'a> = (Call<'a>, FrameEvent, Held);
 
 /// Each step of a master with one retry and the reply limit 33, to which `ASKS_128` was submitted.
@@ -107,7 +107,7 @@ fn event_of(master: &mut FrameMaster, call: &Call) -> Result<FrameEvent, Fail> {
     })
 }
 
-/// Whether a master takes this step.
+/// Whether a call returns the event of its step, and leaves in hand what the step says.
 fn takes(master: &mut FrameMaster, step: &Step) -> Result<bool, Fail> {
     let (request, _) = decode(ASKS_128)?;
     let (call, want, held) = step;

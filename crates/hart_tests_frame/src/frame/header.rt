@@ -1,11 +1,11 @@
-//! Headers that are heard at places where a message was missed.
+//! Headers that are heard at misses.
 use super::sighting::next_of;
 use super::*;
 
 /// What a header says: the kind, the address bytes with a burst bit of 0, and the command.
 type Said<'a> = (FrameKind, &'a [u8], u8);
 
-/// Bytes, whether a character with fault bits follows them, and the header of their first miss, if it has one.
+/// Bytes, whether a character with fault bits follows them, and the header of the first miss, if it has one.
 type Row<'a> = (&'a [u8], bool, Option<Said<'a>>);
 
 const HEADERS: &[Row] = &[
@@ -59,7 +59,7 @@ const HEADERS: &[Row] = &[
         false,
         Some((FrameKind::Stx, &[0x80, 0, 0, 0, 0], 0x0B)),
     ),
-    // No delimiter of this profile.
+    // The delimiter of a burst message, and a byte that is no delimiter.
     (&[0xFF, 0xFF, 0x01, 0x80, 0x00, 0x00, 0x81], false, None),
     (&[0xFF, 0xFF, 0x0A, 0x80, 0x00, 0x00, 0x8A], false, None),
     // A byte count below 2, a bad check byte, and one preamble byte.

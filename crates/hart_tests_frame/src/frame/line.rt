@@ -1,4 +1,4 @@
-//! Tests of the frames that are found in what is heard on the line, and of the places where none stands.
+//! Tests of the frames that are found in what is heard on the line, and of the places where no frame stands.
 use super::*;
 use hart_rows::told;
 
@@ -56,9 +56,9 @@ const INSIDE: &[u16] = &[
     0x80, 0x00, 0x00, 0x82,
 ];
 
-/// Characters, how many are heard, the place to search from, and where the first frame starts and stops.
+/// Characters, how many of them are heard, the place to search from, and where the first frame starts and stops.
 ///
-/// The high byte of a character is its fault bits. Faultless characters 00 follow the characters of a row.
+/// The high byte of a number is the fault bits of its character. After the characters of a row come faultless characters 00.
 type Heard<'a> = (&'a [u16], usize, usize, Option<(usize, usize)>);
 
 const HEARD: &[Heard] = &[
@@ -97,7 +97,7 @@ const HEARD: &[Heard] = &[
     ),
 ];
 
-/// Returns the characters of a row, followed by faultless 00, 300 in all.
+/// Returns the characters of a row, and then faultless characters 00, 300 in all.
 fn heard(row: &[u16]) -> Option<[Char; 300]> {
     let mut chars = [Char::new(0, 0)?; 300];
     write_chars(&mut chars, row)?;
@@ -139,7 +139,7 @@ const DELIVERIES: &[Delivery] = &[
     (INSIDE, Frames::Alone(15, 20)),
 ];
 
-/// Whether these are the frames of a delivery.
+/// Whether a delivery has these frames.
 fn are_frames_of(delivery: &[Char], want: &Frames) -> Result<bool, Fail> {
     let got = lone_frame(delivery);
     let holds = match (&got, want) {

@@ -1,4 +1,4 @@
-//! Compares the sightings that are decided while characters are heard with the messages and misses of the whole list.
+//! Hears a list of characters in pieces, and compares the decided sightings with the messages and misses of the whole list.
 use hart_frame::{After, Char, Miss, NextSighting, Sighting, first_frame, next_sighting, why_none};
 use hart_rows::{hold_ok, same};
 use std::alloc::Global;
@@ -14,7 +14,7 @@ enum Seen {
 /// Characters, whether more may follow, and the sightings that are decided. The high byte of a character is its fault bits.
 type Row<'a> = (&'a [u16], bool, &'a [Seen]);
 
-/// Rows of characters. Where a body in a row has the check byte FF, only a single FF stands before the body.
+/// Rows of characters. In these rows, only a single FF precedes each body whose check byte is FF.
 const SEEN: &[Row] = &[
     (&[], false, &[]),
     (
@@ -128,17 +128,17 @@ const SEEN: &[Row] = &[
 /// More bytes than any test hears.
 const MOST_BYTES: usize = 10_000;
 
-/// What was heard and is not used yet, and what was seen.
+/// What was heard and may still be needed, and what was seen so far.
 #[derive(Drop)]
 struct Hearing {
-    /// The faultless bytes that are not used yet.
+    /// The faultless bytes that may still be needed.
     kept: Vec<u8>,
     /// The place of the first kept byte.
     first: usize,
     seen: Vec<Seen>,
 }
 
-/// Returns what is seen, with places counted from the first character heard instead of from `first`.
+/// Returns a sighting with `first` added to its places, so that they count from the first character heard.
 fn placed(first: usize, sighting: &Sighting) -> Option<Seen> {
     match sighting {
         Sighting::Message(found) => {
@@ -154,7 +154,7 @@ fn placed(first: usize, sighting: &Sighting) -> Option<Seen> {
     }
 }
 
-/// Returns a miss whose places are greater by `places`.
+/// Returns a miss with all its places increased by `places`.
 fn moved(miss: Miss, places: usize) -> Option<Miss> {
     Some(match miss {
         Miss::Faulty { place, faults } => Miss::Faulty {
@@ -170,8 +170,8 @@ fn moved(miss: Miss, places: usize) -> Option<Miss> {
     })
 }
 
-/// Returns the next sighting from `from` on; `None` if `from` lies past the bytes, if the bytes are too many, or if the damaged character
-/// has no fault bit.
+/// Returns the next sighting from `from` on. Returns `None` if `from` lies past the bytes, if there are too many bytes, or if the damaged
+/// character has no fault bit.
 pub fn next_of(bytes: &[u8], after: After, from: usize) -> Option<NextSighting<'_>> {
     if from > bytes.len() || bytes.len() > MOST_BYTES {
         return None;
@@ -187,8 +187,8 @@ pub fn next_of(bytes: &[u8], after: After, from: usize) -> Option<NextSighting<'
 }
 
 impl Hearing {
-    /// Adds the sightings that are decided by the kept bytes and by what comes after them, and drops the used bytes. Fails if more
-    /// characters may come and more than 268 bytes stay.
+    /// Adds the sightings that are decided by the kept bytes and by what comes after them, and drops the bytes that are no longer needed.
+    /// Fails if more characters may come and more than 268 bytes stay.
     fn see(&mut self, alloc: Global, after: After) -> Result<(), Fail> {
         let mut used = 0;
         for _ in 0..=self.kept.len() {
@@ -213,7 +213,7 @@ impl Hearing {
     }
 }
 
-/// Returns what is seen of characters that are heard `size` at a time.
+/// Returns the sightings of characters that are heard `size` at a time.
 fn heard(alloc: Global, chars: &[Char], ended: bool, size: usize) -> Result<Vec<Seen>, Fail> {
     let mut hearing = Hearing {
         kept: Vec::new(alloc),
@@ -237,8 +237,8 @@ fn heard(alloc: Global, chars: &[Char], ended: bool, size: usize) -> Result<Vec<
     Ok(hearing.seen)
 }
 
-/// Returns what is seen of the whole list: its messages, and the misses in each gap. Finds a miss only from the characters after
-/// the previous message. Leaves out a miss with one preamble byte if `is_crossed` is true for its place.
+/// Returns the sightings of the whole list: its messages, and the misses in each gap between them. For a miss, only the characters after
+/// the message before it count. A miss with one preamble byte is left out if `is_crossed` is true for its place.
 fn of_whole(alloc: Global, chars: &[Char]) -> Result<Vec<Seen>, Fail> {
     let mut seen = Vec::new(alloc);
     let mut from = 0;
@@ -261,7 +261,7 @@ fn of_whole(alloc: Global, chars: &[Char]) -> Result<Vec<Seen>, Fail> {
     Ok(seen)
 }
 
-/// Whether two faultless `FF` in a row begin inside the whole body that stands at a place.
+/// Whether two adjacent faultless `FF` begin inside the whole body that stands at a place.
 fn is_crossed(chars: &[Char], place: usize) -> bool {
     let byte = |offset: usize| chars
         .get(place.wrapping_add(offset))
@@ -302,7 +302,7 @@ fn sightings_are_seen_when_they_are_decided(rt: HostRuntime) -> Result<(), Fail>
     Ok(())
 }
 
-/// Bytes that misheard messages are made of.
+/// Bytes from which misheard messages are made.
 const BYTES: &[u8] = &[
     0xFF, 0xFF, 0x02, 0x06, 0x80, 0x00, 0x00, 0x01, 0x02, 0x82, 0xFD, 0x7D,
 ];
@@ -314,8 +314,7 @@ fn next_number(number: u64) -> u64 {
         .wrapping_add(1_442_695_040_888_963_407)
 }
 
-/// Appends a byte that a number chooses: one of `BYTES`, or the check byte that fits the last bytes. A few of these characters have
-/// a fault.
+/// Appends a byte that `number` chooses: one of `BYTES`, or the check byte that fits the last bytes. Sometimes the character has a fault.
 fn push_some(chars: &mut Vec<Char>, number: u64) -> Result<(), Fail> {
     let choice = (number / 65_536 % 64) as usize;
     let mut byte = *BYTES.get(choice % 12).unwrap_or(&0);
@@ -335,8 +334,8 @@ fn push_some(chars: &mut Vec<Char>, number: u64) -> Result<(), Fail> {
     Ok(())
 }
 
-/// Makes characters from a number. Returns whether their sightings are those of the whole list, both when they are heard at once and in
-/// pieces. The sightings that are decided before the end must be the first sightings of the whole list.
+/// Whether a list of characters made from `number`, heard in pieces, has the sightings of the whole list. The sightings that are decided
+/// before the end must be the first of them.
 fn is_whole(alloc: Global, number: u64) -> Result<bool, Fail> {
     let mut chars = Vec::new(alloc);
     let mut state = number;

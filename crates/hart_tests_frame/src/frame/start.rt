@@ -18,7 +18,7 @@ const STARTS: &[Row] = &[
 ];
 
 /// Returns the first place at which a body may start. The outer option is `None` if `heard` is no list of characters, or has more than
-/// seven.
+/// seven characters.
 fn start_in(heard: &[u16]) -> Option<Option<usize>> {
     let mut chars = [Char::new(0, 0)?; 7];
     write_chars(&mut chars, heard)?;

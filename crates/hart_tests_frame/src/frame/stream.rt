@@ -76,7 +76,7 @@ const HEARD: &[(Parts, usize)] = &[
     (&[(INSIDE, 1), (&[0x40FF], 1), (ONE, 1)], 28),
 ];
 
-/// Long noise and many false starts, and the single frame at their end, if there is one: its start, and what it is read as.
+/// Long noise and many false starts. If a frame stands at the end, the row has its start and its parts.
 const NOISE: &[(Parts, Option<(usize, Read)>)] = &[
     (&[(&[0xFF], 100_000)], None),
     (
@@ -158,7 +158,7 @@ fn last_taken(scanner: &mut Scanner, chars: &[Char], from: usize) -> Option<usiz
     Some(stop)
 }
 
-/// Returns where the last frame of a list stops, if the scanner finds all its frames character by character.
+/// Returns where the last frame of a list stops, if the scanner finds all frames of the list character by character.
 fn by_character(chars: &[Char]) -> Option<usize> {
     let mut scanner = Scanner::new();
     let mut stop = 0;
@@ -178,10 +178,10 @@ fn push(scanner: &mut Scanner, character: Char) -> Option<()> {
     Some(())
 }
 
-/// What a chunk is made of.
+/// How the characters of a chunk are passed.
 #[derive(Clone, Copy)]
 enum Chunks {
-    /// Faultless bytes; a character with faults is pushed alone.
+    /// Faultless bytes. A character with faults is pushed alone.
     Bytes,
     /// Characters with and without faults.
     Chars,
@@ -277,7 +277,7 @@ fn a_scanner_gives_the_frames(rt: HostRuntime) -> Result<(), Fail> {
     Ok(())
 }
 
-/// How many characters were heard when a view came, and where its frame starts and stops.
+/// How many characters were heard when a view was given, and where its frame starts and stops.
 type Viewed = (usize, u64, u64);
 
 /// Returns the view that the scanner gives next, if there is one, after `count` characters.
@@ -286,7 +286,7 @@ fn viewed(scanner: &mut Scanner, count: usize) -> Option<Viewed> {
     Some((count, view.start, view.stop))
 }
 
-/// Returns the first view of a list, which may come only after `finish`.
+/// Returns the first view that a scanner gives of a list. It may come only after `finish`.
 fn first_view(chars: &[Char]) -> Option<Viewed> {
     let mut scanner = Scanner::new();
     for (place, character) in chars.iter().enumerate() {
@@ -309,8 +309,8 @@ fn a_view_waits_for_the_false_message_around_it(rt: HostRuntime) -> Result<(), F
     Ok(())
 }
 
-/// Returns where the first frame stops, or 0 if no frame is wanted and none is found. Fails unless the first frame is the wanted frame and
-/// the characters end with it.
+/// Returns where the wanted frame stops, or 0 if no frame is wanted. Fails unless the first frame is the wanted one and the characters end
+/// with it, or no frame is wanted and none is found.
 fn noise_stop(chars: &[Char], want: &Option<(usize, Read)>) -> Result<usize, Fail> {
     match (first_frame(chars, 0), want) {
         (None, None) => Ok(0),
@@ -327,7 +327,7 @@ fn noise_stop(chars: &[Char], want: &Option<(usize, Read)>) -> Result<usize, Fai
     }
 }
 
-/// Like `by_character`, with all the characters as one chunk of bytes; none of them has a fault.
+/// Like `by_character`, with all characters as one chunk of bytes. None of the characters has a fault.
 fn at_once(chars: &[Char], bytes: &[u8]) -> Option<usize> {
     let mut scanner = Scanner::new();
     if scanner.push_bytes(bytes) != bytes.len() {

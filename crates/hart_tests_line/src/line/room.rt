@@ -12,7 +12,7 @@ const ZEROS: &[u8] = &[0; 80];
 /// Commands with more data than they need.
 const LONGER: &[&str] = &["6 0501", "9 0001020304F4F5F6", "38 0001"];
 
-/// What is heard in the two legs of a turn. Each of three cases for the leg up is combined with each of three cases for the leg down.
+/// What is heard in the two legs of a turn: each of three cases for the leg up with each of three cases for the leg down.
 const LEGS: &[&str] = &[
     "ok ok",
     "ok lost",
@@ -25,7 +25,7 @@ const LEGS: &[&str] = &[
     "FF00!10 00FF!40",
 ];
 
-/// The master of a turn, and what was submitted before to the other master.
+/// The master of a turn, and what was submitted to the other master before this turn.
 const MASTERS: &[(&str, &str)] = &[
     ("P", ""),
     ("S", ""),
@@ -33,7 +33,7 @@ const MASTERS: &[(&str, &str)] = &[
     ("S", "submit P 37420A1B2C 0\n"),
 ];
 
-/// A text that grows by one part.
+/// A text that grows because one part is repeated.
 struct Growing<'a> {
     prefix: &'a str,
     part: &'a str,
@@ -110,7 +110,7 @@ fn lens_of(alloc: Global, script: &str) -> Result<(usize, usize), Fail> {
     ))
 }
 
-/// Gives a master `times` turns after submissions. Returns whether there are `submissions` outcomes, one for each submission.
+/// Gives a master `times` turns after some submissions. Returns whether there are `submissions` outcomes, one for each submission.
 fn have_outcomes(
     alloc: Global,
     submitted: &str,
@@ -123,7 +123,7 @@ fn have_outcomes(
     Ok(outcomes == submissions)
 }
 
-/// Gives a master one to four turns after submissions. Fails the test unless there is one outcome for each submission.
+/// Gives a master one to four turns after some submissions. Fails the test unless there is one outcome for each submission.
 fn take_turns(
     rt: &impl Abort,
     alloc: Global,
@@ -152,7 +152,7 @@ fn send_often(
     take_turns(rt, alloc, submitted.as_str(), turn.as_str(), submissions)
 }
 
-/// Submits a command to each master, with and without a request in the other master's hand.
+/// Submits a command to each master, while the other master has a request in hand and while it has none.
 fn send_by_each(rt: &impl Abort, alloc: Global, command: &str, legs: &str) -> Result<(), Fail> {
     for master in MASTERS {
         send_often(rt, alloc, command, legs, *master)?;
@@ -179,7 +179,7 @@ fn grow(rt: &impl Eprint, alloc: Global, growing: &Growing) -> Result<(), Fail> 
     Ok(())
 }
 
-/// Submits a command to each master. The turns of the master are heard as each row of `LEGS` says.
+/// Submits a command to each master, once for each row of `LEGS`. The row says what is heard in the turns of the master.
 fn send_on_each_leg(rt: &impl Abort, alloc: Global, command: &str) -> Result<(), Fail> {
     for legs in LEGS {
         send_by_each(rt, alloc, command, *legs)?;
@@ -229,7 +229,7 @@ fn every_command_has_room(rt: HostRuntime) -> Result<(), Fail> {
     Ok(())
 }
 
-/// More numbers of items, for which the scripts above need no room. `reserved` must find room for each number.
+/// Further numbers of items, which no script above needs. `reserved` must find memory for each number.
 const ROOMS: &[usize] = &[1, 31, 7_777, 1_048_577];
 
 #[test]

@@ -18,7 +18,7 @@ enum Fate<'a> {
 
 /// A script, and what it leads to.
 struct Row<'a> {
-    /// The counter and the flags at the end of the image that the device starts from; the registers of this image are the bench device's.
+    /// The counter and the flags at the end of the image from which the device starts. The registers of this image are the bench device's.
     ending: [u8; 3],
     /// The greatest number of retries of the primary master.
     retries: u8,
@@ -27,8 +27,8 @@ struct Row<'a> {
     /// The number of spoken frames.
     spoken: usize,
     counter: u16,
-    /// What the registers of the polling address and of the final assembly number hold at the end. The loop current mode is enabled
-    /// in every row.
+    /// What the registers hold at the end: the polling address, and the final assembly number. The loop current mode is enabled in every
+    /// row.
     polling: u8,
     assembly: [u8; 3],
 }
@@ -297,7 +297,7 @@ fn device_of<S: RegisterStore + Drop>(row: &Row) -> Result<Device<S>, Fail> {
     Ok(Device::from_image(bench::identity(), image.as_slice())?)
 }
 
-/// Returns what a row's script leads to, on a device with this store that starts from the row's image.
+/// Returns what a row's script leads to, on a device with this store, made from the row's image.
 fn report_of<S: RegisterStore + Drop>(alloc: Global, row: &Row) -> Result<Report<S>, Fail> {
     let events = read_script(alloc, row.script.as_bytes())?;
     let device = device_of::<S>(row)?;
@@ -351,7 +351,7 @@ fn are_held(registers: &FieldRegisters, row: &Row) -> Result<bool, Fail> {
     )
 }
 
-/// Whether two devices with different kinds of store did the same.
+/// Whether a script had the same result on two devices with different kinds of stores.
 fn are_alike(
     report: &Report<FieldRegisters>,
     other: &Report<ImageRegisters>,

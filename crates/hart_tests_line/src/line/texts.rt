@@ -2,8 +2,8 @@
 use super::*;
 use hart_rows::text_of;
 
-/// A text in which a part is repeated, and what it is read as: a letter for each event of its script, or the number of its first
-/// bad line.
+/// A text in which a part is repeated. The text is a script, given by a letter for each event, or has a first bad line, given by its
+/// number.
 struct Long<'a> {
     prefix: &'a str,
     part: &'a str,
@@ -106,7 +106,7 @@ const LONG: &[Long] = &[
         suffix: "off",
         want: Ok("-"),
     },
-    // Empty lines say nothing, and are counted.
+    // An empty line is no event, but the line numbers count it.
     Long {
         prefix: "",
         part: "\n",

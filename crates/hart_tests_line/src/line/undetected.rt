@@ -10,21 +10,21 @@ const FRAME_IN_NOISE: &str = "noise FFFF0280000083\nprotect on\nnoise FFFF028000
 const WRITTEN_HEARD: &str = "submit P 37420A1B2C 19 012345\n\
     turn P FFFF82B7420A1B2C13030123453C FFFF86B7420A1B2C130500400123457F";
 
-/// The device replies to a garbled request, but a communication-fault reply with another fault is heard.
+/// The device replies to a garbled request, but a communication-fault reply with a different fault is heard.
 const OTHER_FAULT_HEARD: &str = "submit P 37420A1B2C 19 012345\n\
     turn P FFFF82B7420A1B2C13030123453C FFFF86B7420A1B2C1302C0009F";
 
-/// The two scripts below are like the two scripts above, but in turns without a request in hand.
+/// Like the two scripts above, but in turns without a request in hand.
 const WRITTEN_HEARD_UNASKED: &str =
     "turn P FFFF82B7420A1B2C13030123453C FFFF86B7420A1B2C130500400123457F";
 
 const OTHER_FAULT_HEARD_UNASKED: &str =
     "turn P FFFF82B7420A1B2C13030123453C FFFF86B7420A1B2C1302C0009F";
 
-/// A reply other than the device's is heard, with a check byte that fits.
+/// A reply other than the device's is heard, with a correct check byte.
 const ANOTHER_REPLY: &str = "submit P @0 0\nturn P ok FFFF06800002000084";
 
-/// A request other than the master's is heard, with a check byte that fits.
+/// A request other than the master's is heard, with a correct check byte.
 const ANOTHER_REQUEST: &str = "submit P 37420A1B2C 19 012345\n\
     turn P FFFF82B7420A1B2C13030123463E ok";
 
@@ -41,7 +41,7 @@ const UNDETECTED: &[Row] = &[
     (OTHER_FAULT_HEARD_UNASKED, 0, Leg::Down),
 ];
 
-/// Whether a script stops where its row says, on a device with a store of each kind.
+/// Whether a script stops where its row says, on devices with each kind of store.
 fn stops(alloc: Global, row: &Row) -> Result<bool, Fail> {
     let (script, event, leg) = *row;
     let want = LineFault::Undetected { event, leg };

@@ -1,4 +1,4 @@
-//! Words that a request refuses: for a field's name, or for its value.
+//! Words that a request refuses, because of a field's name or of its value.
 
 use super::{Row, TO_DEVICE, is_written};
 use hart_rows::hold_ok;
