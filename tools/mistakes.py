@@ -25,33 +25,33 @@ def is_asked(name, words):
     return not words or any(name == it or name.startswith(f"{it}/") or name.endswith(f"/{it}") for it in words)
 
 
-def chosen_of(ledger, asked, digest, words):
+def chosen_of(ledger, asked, words):
     """Those of what is asked for that a run tries."""
     if words.all or words.names:
         return asked
     said = {name: ledger.said[name] for name in asked if name in ledger.said}
-    known = {name for name, it in said.items() if it.digest == digest(asked[name], it.where) != ""}
+    known = {name for name, it in said.items() if it.digest == ledger.digest(asked[name], it.where) != ""}
     again = ledger.sampled(known) if words.gate else set()
     print(f"mistakes: mistakes.lock answers for {len(known)} of {len(asked)}, and {len(again)} of these are tried again", flush=True)
     return {name: it for name, it in asked.items() if name not in known - again}
 
 
-def run(words, ledger, things, digest, try_all):
+def run(words, ledger, things, tried):
     """Tries those of these that are asked for, tells each verdict, and writes the ledger. Returns whether one is not refused."""
     for word in words.names:
         if not any(is_asked(name, [word]) for name in things):
             sys.exit(f"mistakes: no crate and no wrong body is named {word}")
     asked = {name: it for name, it in things.items() if is_asked(name, words.names)}
-    chosen, failed = chosen_of(ledger, asked, digest, words), []
+    chosen, failed = chosen_of(ledger, asked, words), []
     if words.list:
         print("\n".join(chosen))
         return False
-    for name, where, verdict in try_all(list(chosen.values())):
+    for name, where, verdict in tried(ledger.tree, list(chosen.values())):
         said = f"refused at {where}: {verdict.words()}" if verdict.is_refused() else f"NOT REFUSED: {verdict.why}"
         print(f"{name}: {said.removesuffix(': ')}", flush=True)
         failed += [] if verdict.is_refused() else [name]
         if not words.gate:
-            ledger.put(name, digest(things[name], where) if verdict.is_refused() else "", where, verdict.words())
+            ledger.put(name, ledger.digest(things[name], where) if verdict.is_refused() else "", where, verdict.words())
     used = resource.getrusage(resource.RUSAGE_CHILDREN)
     print(f"mistakes: {(used.ru_utime + used.ru_stime) / 60:.1f} processor minutes{'; not refused: ' if failed else ''}{' '.join(failed)}")
     print(f"mistakes: {len(asked) - len(failed)} refused, {len(failed)} failed, {len(chosen)} of {len(asked)} tried")
@@ -64,16 +64,15 @@ def main():
         parser.add_argument(f"--{flag}", action="store_true")
     parser.add_argument("names", nargs="*", metavar="CRATE | NAME")
     words = parser.parse_args()
-    if words.can_fail or words.against_rattle:
-        sys.exit(planted.can_fail() if words.can_fail else planted.against_rattle())
     tree = tree_at()
-    edits = every_edit(tree)
-    variants, wrong = definitions.variants(tree, definitions.rows())
-    ledger = Ledger(tree, {*edits, *variants})
-    if words.definitions:
-        is_failed = run(words, ledger, variants, ledger.digest_at, lambda chosen: definitions.tried(tree, chosen))
-        sys.exit("\n".join(wrong) or is_failed)
-    sys.exit(run(words, ledger, edits, ledger.digest, lambda chosen: bodies.tried(tree, chosen)))
+    edits, (variants, wrong) = every_edit(tree), definitions.variants(tree, definitions.rows())
+    if words.can_fail or words.against_rattle:
+        found = list((planted.can_fail if words.can_fail else planted.against_rattle)(tree, edits, variants))
+        print(*found, f"mistakes: {len(found)} outcomes are not the wanted ones", sep="\n")
+        sys.exit(bool(found))
+    kind, things = (definitions, variants) if words.definitions else (bodies, edits)
+    is_failed = run(words, Ledger(tree, {*edits, *variants}), things, kind.tried)
+    sys.exit(words.definitions and "\n".join(wrong) or is_failed)
 
 
 if __name__ == "__main__":

@@ -2,15 +2,13 @@
 
 Alone, a wrong body takes 15 to 90 seconds of processor time; in a batch it takes 2."""
 
+import contextlib
 import functools
 import os
-import re
 
 from kit import COPYING, ROOT, copied, side_by_side
 from mistakes.edits import BadEdit, apply, wrong_body
 from mistakes.verdicts import Verdict, unread, verdict_of
-
-COMPILER = re.compile(r"^(?:note: )?(?:\./)?(src/\S+?\.rt):(\d+):\d+: error\b", re.M)
 
 # A check of 62 wrong bodies of the largest crate takes 3.7 GB of memory, and one of 110 more than 5 GB.
 MOST = 64
@@ -24,46 +22,30 @@ def texts_of(edits, crate):
     return texts
 
 
-def has_room(batch, body, crate):
-    """Whether a wrong body can stand in a batch: no function is changed twice, and one that changes more than bodies stands alone. One may
-    call the other, since a proof rests on the contracts of the functions that it calls, and not on their proofs."""
-    if len(batch) == MOST or any(it.is_alone() or it.paths() & body.paths() for it in batch) or batch and body.is_alone():
-        return False
-    try:
-        texts_of([it.edit for it in (*batch, body)], crate)
-    except BadEdit:
-        return False
-    return True
-
-
 def batches_of(bodies, crate):
-    """Puts wrong bodies into batches, those first whose functions are changed most often."""
-    often = [path for body in bodies for path in body.paths()]
-    found = []
+    """Puts wrong bodies into batches, those first whose functions are changed most often. In a batch no function is changed twice, and what
+    changes more than bodies stands alone. One may call the other, since a proof rests on the contracts of what is called."""
+    def takes(batch, texts, body):
+        if len(batch) == MOST or batch and body.is_alone() or any(it.is_alone() or it.paths() & body.paths() for it in batch):
+            return False
+        with contextlib.suppress(BadEdit):
+            return bool(apply(body.edit, crate, texts))
+        return False
+
+    often, found = [path for body in bodies for path in body.paths()], [([], {}) for _ in bodies]
     for body in sorted(bodies, key=lambda it: -max(map(often.count, it.paths()))):
-        batch = next((it for it in found if has_room(it, body, crate)), None)
-        if batch is None:
-            found.append(batch := [])
-        batch.append(body)
-    return found
-
-
-def parts_of(batch, said):
-    """The parts in which a batch that is not read is tried again: each wrong body in whose function the compiler finds an error, and the
-    others together; halves if it names no line of one."""
-    errors, half = [(file, int(line) - 1) for file, line in COMPILER.findall(said)], len(batch) // 2
-    wrong = [body for body in batch if any(body.stands_at(*it) for it in errors)]
-    parts = [*([it] for it in wrong), [it for it in batch if it not in wrong]] if wrong else [batch[:half], batch[half:]]
-    return [it for it in parts if it]
+        next(batch for batch, texts in found if takes(batch, texts, body)).append(body)
+    return [batch for batch, _ in found if batch]
 
 
 def judged(room, batch, crate):
-    """Returns the verdict on each wrong body of a batch. One that is not refused beside others is tried once more, alone."""
+    """Returns the verdict on each wrong body of a batch. One that is not refused beside others is tried once more, alone. If a batch is not
+    read, its halves are tried."""
     said = room.check(crate.name, sorted({path for body in batch for path in body.paths()}), texts_of([it.edit for it in batch], crate))
     found = [(it, verdict_of(said, crate.name, it.functions)) for it in batch]
     if len(batch) == 1:
         return found
-    again = parts_of(batch, said) if unread(said) else [[body] for body, verdict in found if not verdict.is_refused()]
+    again = [batch[::2], batch[1::2]] if unread(said) else [[body] for body, verdict in found if not verdict.is_refused()]
     return [it for it in found if it[1].is_refused()] + [it for part in again for it in judged(room, part, crate)]
 
 
@@ -81,11 +63,9 @@ def tasks_of(tree, base, of_crates):
     changed. If nothing is kept, the first batch proves it for those after it."""
     for name in [it for it in reversed(tree.crates) if it in of_crates]:
         with COPYING:
-            said = base.check(name, [""])
-        if not said.rstrip().endswith("only=0 proved=0"):
-            why = Verdict((), f"the libraries below its crate are not built: {said.rstrip().rpartition(chr(10))[2]}")
-            yield lambda name=name, why=why: [(it, why) for it in of_crates[name]]
-            continue
+            said = base.check(name, [""]).rstrip()
+        if not said.endswith("only=0 proved=0"):
+            raise SystemExit(f"mistakes: the libraries below {name} are not built: {said.rpartition(chr(10))[2]}")
         batches = batches_of(of_crates[name], tree.crate(name))
         for some in [[it] for it in batches] if os.path.isdir(f"{ROOT}/crates/{name}/out") else [batches]:
             yield functools.partial(judged_in_turn, base, tree.crate(name), some)

@@ -10,7 +10,7 @@ from collections import Counter
 from typing import NamedTuple
 
 from kit import copied, side_by_side, text_of
-from mistakes.places import places_of, unread_at, why_unread
+from mistakes.places import places_of, why_unread
 from mistakes.rests import Rests, Walk
 from mistakes.verdicts import Verdict
 
@@ -20,8 +20,8 @@ HEAD = re.compile(r"^(?:(?:abbrev|unfoldable|opaque) )*pub (?:record |data )?(?!
 SHAPE = re.compile(r"(?:pub data \w+|pub record \w+(?: \(\w+ : Type \d\))*|abbrev pub \w+) : Type \d")
 # What a file says of definitions that no public contract names. In its first line it speaks of all its definitions.
 PRIVATE = re.compile(r"^--.*\bOnly private calls use (these definitions|the definitions from here on|the next definition)\b", re.M)
-# At how many places a variant is tried beside others at once and in all, and how many functions try one that is planted alone.
-FEW, MOST, MANY = 2, 6, 12
+# At how many places a variant is tried at once and in all, first and then, and how many functions of a crate above try one.
+STAGES, MANY = ((2, 4), (8, 40)), 12
 PROVED = "its crate is still proved"
 
 
@@ -40,17 +40,12 @@ class Variant(NamedTuple):
         """These texts of files without comments, with the variant in its file."""
         return {**texts, self.file: texts[self.file].replace(self.block, self.block.replace(self.old, self.new), 1)}
 
-    def stands_at(self, file, line, plain):
-        """Whether a line of a file without comments is one of the definition's."""
-        first = plain[self.file].partition(self.block)[0].count("\n") + 1
-        return file == self.file and first <= line <= first + self.block.count("\n")
-
 
 def private_in(text):
     """The names of the definitions of a file that only private calls use, as it says."""
     _, *parts = PRIVATE.split(text)
-    named = [(scope, HEAD.findall(part)) for scope, part in zip(parts[::2], parts[1::2])]
-    return {name for scope, names in named for name in (names[:1] if scope == "the next definition" else names)}
+    most = {"the next definition": 1}
+    return {name for scope, part in zip(parts[::2], parts[1::2]) for name in HEAD.findall(part)[: most.get(scope)]}
 
 
 def definitions_of(crate):
@@ -76,14 +71,11 @@ def definitions_of(crate):
 
 def rows():
     """The lines of the table of variants, by crate and key: the text that is replaced and its replacement; None if there can be none."""
-    found, crate = {}, ""
-    for line in [it for it in text_of(ROWS).split("\n") if it and not it.startswith("#")]:
-        key, colon, rest = line.partition(": ")
-        old, arrow, new = rest.partition(" =>")
-        if colon:
+    found = {}
+    for crate, part in re.findall(r"^(\w+)\n((?:[^:#\n]+: .*\n)+)", text_of(ROWS), re.M):
+        for key, rest in re.findall(r"^([^:]+): (.*)$", part, re.M):
+            old, arrow, new = rest.partition(" =>")
             found[crate, key] = (old, new.removeprefix(" ")) if arrow else None
-        else:
-            crate = line
     return found
 
 
@@ -105,85 +97,83 @@ def variants(tree, table):
 
 
 class Trial:
-    """The variants of a crate that are left to be tried, the places of the crate that can refuse them, with the variants on which each
-    rests, and the function with which each place is checked. A lemma is checked with a function whose proof reads its file."""
+    """The variants of a crate that are left, the places of this crate or of one above that can refuse them, with the variants on which
+    each rests, and the function with which each is checked. A lemma is checked with a function whose proof reads its file."""
 
-    def __init__(self, tree, base, name, variants, above=()):
-        self.tree, self.base, self.crate, self.above, self.left, self.tried = tree, base, tree.crate(name), above, dict(variants), Counter()
+    def __init__(self, tree, base, name, variants):
+        self.tree, self.base, self.crate, self.left, self.tried = tree, base, tree.crate(name), dict(variants), Counter()
         by_key, rests = {it.place: it.name for it in variants.values()}, Rests(tree, name)
         self.cones, self.checked, read = {}, {}, {it: self.crate.modules_read_with(it) for it in self.crate.functions.values()}
         for function in sorted(read, key=lambda it: (it.file == "src/laws.rt", len(read[it]))):
             lemmas = [f"{lemma} of {self.crate.files[at]}" for at in sorted(read[function]) for lemma in self.crate.modules[at]]
             for place in [it for it in (function.path, *lemmas) if it not in self.checked]:
                 self.checked[place] = function.path
-                self.cones[place] = {by_key[it[:2]] for it in Walk(rests, rests.starts_at(place)).reached if it[:2] in by_key}
+                self.cones[place] = {by_key[it[:2]] for it in Walk(rests, rests.starts_at(place), True).reached if it[:2] in by_key}
 
     def resting_on(self, name):
         """The places that rest on a variant, those first that rest on the fewest that are left."""
         return sorted((it for it, cone in self.cones.items() if name in cone), key=lambda it: len(self.cones[it] & self.left.keys()))
 
-    def chosen(self):
-        """Variants that can be planted at once, each with places that rest on it alone among them, and were not tried with it."""
+    def chosen(self, names, few):
+        """Those of these variants that can be planted at once, each with a few untried places that rest on it alone among them."""
         often, found, blocked = Counter(name for cone in self.cones.values() for name in cone), {}, set()
-        for name in sorted(self.left, key=lambda it: often[it]):
-            is_open = name not in blocked and self.tried[name] < MOST
-            fit = [it for it in self.resting_on(name) if not self.tried[name, it]] if is_open else []
+        for name in sorted(names, key=lambda it: often[it]):
+            fit = [] if name in blocked else [it for it in self.resting_on(name) if not self.tried[name, it]]
             place = next((it for it in fit if not self.cones[it] & found.keys()), "")
             if place:
                 found[name] = fit
                 blocked |= self.cones[place]
-        return {name: [it for it in fit if self.cones[it] & found.keys() == {name}][:FEW] for name, fit in found.items()}
+        return {name: [it for it in fit if self.cones[it] & found.keys() == {name}][:few] for name, fit in found.items()}
 
-    def check(self, names, functions, crate):
-        """Plants these variants, and returns what the prover says of these functions of the crate, or of a crate above."""
-        texts = {self.left[it].file: self.crate.plain[self.left[it].file] for it in names}
+    def planned(self, few, most):
+        """What is planted in turn, so that each variant that was tried at fewer places is tried at a few, with most at once first."""
+        names, found = {it for it in self.left if self.tried[it] < most}, []
+        while chosen := self.chosen(names, few):
+            found.append(chosen)
+            names -= chosen.keys()
+        return sorted(found, key=len, reverse=True)
+
+    def judged(self, chosen):
+        """Plants variants at once, and checks their places, or the whole crate. Yields each that places refuse which rest on no other, and
+        each that is not read, with why."""
+        names, functions = list(chosen), sorted({self.checked[it] for fit in chosen.values() for it in fit})
+        plain = self.tree.crate(self.left[names[0]].crate).plain
+        texts = {self.left[it].file: plain[self.left[it].file] for it in names}
         for it in names:
             texts = self.left[it].planted(texts)
-        with copied([crate.name], self.base.folder) as room:
-            return room.check(crate.name, functions, texts, self.crate.name)
-
-    def together(self):
-        """Plants variants at once as long as some can be, and yields those that are refused, and those that are not read."""
-        while chosen := self.chosen():
-            said = self.check(chosen, sorted({self.checked[it] for fit in chosen.values() for it in fit}), self.crate)
-            at, found = unread_at(said), {}
-            unread = {name: why for name in chosen for place, why in at.items() if self.left[name].stands_at(*place, self.crate.plain)}
-            for place in places_of(said, self.crate):
-                hit = self.cones.get(place, set()) & chosen.keys()
-                for name in hit if len(hit) == 1 else ():
-                    found.setdefault(name, []).append(place)
-            # Those beside one that is not read are tried again without it.
-            for name, fit in () if unread else chosen.items():
-                self.tried.update([(name, it) for it in fit] + [name] * (MOST if why_unread(said) else len(fit)))
-            for name in {**found, **unread}:
+        with copied([self.crate.name], self.base.folder) as room:
+            said = room.check(self.crate.name, functions, texts, self.left[names[0]].crate)
+        why, found = why_unread(said), {}
+        if why and len(names) > 1:
+            for half in (names[::2], names[1::2]):
+                yield from self.judged({it: chosen[it] for it in half})
+            return
+        for place in places_of(said, self.crate):
+            hit = self.cones.get(place, set()) & chosen.keys() if len(names) > 1 else chosen
+            for name in hit if len(hit) == 1 else ():
+                found.setdefault(name, []).append(place)
+        why = why or ("" if functions or found or "logic=proved" in said else "no place that is known refuses it")
+        for name, fit in chosen.items():
+            self.tried.update([name] * len(fit) + [(name, it) for it in fit])
+            if why or name in found:
                 del self.left[name]
-                yield name, found.get(name, []), unread.get(name, "")
+                yield name, found.get(name, []), why
 
-    def alone(self, name):
-        """Plants a variant alone, and checks a few functions that rest on it, then its whole crate, then a few functions of crates above
-        that rest on the least. Returns the places that refuse it, and why none does."""
-        some = list(dict.fromkeys(self.checked[it] for it in self.resting_on(name)))[:MANY]
-        for functions in [some, []] if some else [[]]:
-            said = self.check([name], functions, self.crate)
-            found, why = places_of(said, self.crate), why_unread(said)
-            if found or why:
-                return found, why
-        if "logic=proved" not in said:
-            return [], "no place that is known refuses it"
-        for rests in (Rests(self.tree, it) for it in self.above):
-            walks = {path: Walk(rests, rests.starts_of(it)).reached for path, it in rests.own.functions.items()}
-            fit = [path for path, it in walks.items() if self.left[name].place in {at[:2] for at in it}]
-            some = sorted(fit, key=lambda path: len(walks[path]))[:MANY]
-            found = places_of(self.check([name], some, rests.own), rests.own) if some else []
-            if found:
-                return [f"{rests.own.name}::{it}" for it in found], ""
-        return [], PROVED
-
-    def all(self):
-        """Yields the name of each variant with the places that refuse it, and why none does."""
-        yield from self.together()
-        for name in self.left:
-            yield name, *self.alone(name)
+    def all(self, above=()):
+        """Yields the name of each variant with the places that refuse it, of a crate above if none here does, and why none does. They are
+        planted together with others as often as they can be, and then alone, with the whole crate."""
+        for few, most in STAGES:
+            while plan := self.planned(few, most):
+                for chosen in plan:
+                    yield from self.judged(chosen)
+        for name in list(self.left):
+            yield from self.judged({name: []})
+        for name, variant in self.left.items():
+            trials = (Trial(self.tree, self.base, it, {name: variant}) for it in above)
+            rounds = ((it, chosen) for it in trials for chosen in it.planned(MANY, 1))
+            found = (f"{it.crate.name}::{place}" for it, chosen in rounds for _, places, _ in it.judged(chosen) for place in places)
+            place = next(found, "")
+            yield name, [place] if place else [], "" if place else PROVED
 
 
 def tried(tree, variants):
@@ -193,5 +183,5 @@ def tried(tree, variants):
         of_crates.setdefault(it.crate, {})[it.name] = it
     above = {name: [it.name for it in tree.crates.values() if name in it.below] for name in of_crates}
     with copied(tree.crates) as base:
-        for name, where, why in side_by_side(lambda it=it: Trial(tree, base, *it, above[it[0]]).all() for it in of_crates.items()):
+        for name, where, why in side_by_side(lambda it=it: Trial(tree, base, *it).all(above[it[0]]) for it in of_crates.items()):
             yield name, ", ".join(where[:3]), Verdict(("",) if where else (), why)

@@ -48,10 +48,6 @@ class WrongBody(NamedTuple):
     def paths(self):
         return {it.path for it in self.functions}
 
-    def stands_at(self, file, line):
-        """Whether a line of a file is one of a function that it changes."""
-        return any(it.file == file and it.first <= line <= it.last for it in self.functions)
-
     def is_alone(self):
         return bool(self.outside or self.edit.refused_at)
 

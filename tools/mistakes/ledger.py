@@ -8,7 +8,7 @@ import subprocess
 from typing import NamedTuple
 
 from kit import ROOT, text_of, version
-from mistakes.edits import BadEdit, wrong_body
+from mistakes.edits import BadEdit, Edit, wrong_body
 from mistakes.rests import Rests, rules, sum_of
 
 LEDGER = f"{ROOT}/mistakes.lock"
@@ -37,34 +37,28 @@ def entries():
 class Ledger:
     """The ledger, and the digests of a tree, in which there are wrong bodies and wrong definitions of these names."""
 
-    def __init__(self, tree, every=(), said=None):
-        self.tree, self.every, self.said, self.kit = tree, every, entries() if said is None else said, version()
+    def __init__(self, tree, every=()):
+        self.tree, self.every, self.said, self.kit = tree, every, entries(), version()
 
     @functools.cache
     def rests(self, crate):
         return Rests(self.tree, crate)
 
-    def digest(self, edit, _=""):
-        """The digest of a wrong body, or "" if it cannot be tried."""
-        rests = self.rests(edit.crate)
-        try:
-            body = wrong_body(edit, rests.own)
-        except BadEdit:
-            return ""
-        return rests.digest((*edit, sorted(body.paths())), rests.starts(body))
-
-    def digest_at(self, variant, where):
-        """The digest of a wrong definition that the first of these places refuses, of its crate or of one above; "" if it is gone."""
-        place, (module, own) = where.partition(", ")[0], variant.place
+    def digest(self, thing, where=""):
+        """The digest of a wrong body, or of a wrong definition that the first of these places refuses; "" if there is none."""
+        place = where.partition(", ")[0]
         crate, _, inside = place.partition("::")
-        rests = self.rests(crate if crate in self.tree.crates else variant.crate)
+        is_above = crate in self.tree.crates
+        rests = self.rests(crate if is_above else thing.crate)
         try:
-            starts = rests.starts_at(inside if crate in self.tree.crates else place)
+            if isinstance(thing, Edit):
+                body = wrong_body(thing, rests.own)
+                return rests.digest((*thing, sorted(body.paths())), rests.starts(body))
+            starts, (module, own) = rests.starts_at(inside if is_above else place), thing.place
             block = rests.modules[module][own].whole
-        except KeyError:
+        except (BadEdit, KeyError):
             return ""
-        said = (rules("places"), variant.crate, own, variant.old, variant.new, place)
-        return rests.digest(said, [*starts, (block, rests.own, "")])
+        return rests.digest((rules("places"), thing.crate, own, thing.old, thing.new, place), [*starts, (block, rests.own, "")])
 
     def put(self, name, digest, where, refused_by):
         """Writes the line of a wrong body, or takes it away if there is no digest, and takes away the lines of those that are gone."""

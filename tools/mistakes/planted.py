@@ -13,11 +13,10 @@ import re
 from kit import copied, side_by_side, text_of
 from mistakes import definitions
 from mistakes.bodies import batches_of, judged, texts_of
-from mistakes.edits import BadEdit, Change, edit_of, every_edit, replaced, stanzas, wrong_body
+from mistakes.edits import BadEdit, Change, edit_of, replaced, stanzas, wrong_body
 from mistakes.ledger import Entry, Ledger, commit, sample
 from mistakes.rests import Rests
-from mistakes.tree import tree_at
-from mistakes.verdicts import Verdict, verdict_of
+from mistakes.verdicts import Verdict
 
 CRATE = "hart_values"
 CHECKED = re.compile(r"^checked \w+?::(\S+?)(?:::fn::\S+)?, \d+ of \d+", re.M)
@@ -29,29 +28,28 @@ LEMMA = re.compile(r"^pub [\w-]+ : ", re.M)
 EACH = 3
 
 
-def planted_in(name):
-    """The stanzas of a file beside this one by their names."""
-    return {lines[0][1]: lines for lines in stanzas(text_of(f"{os.path.dirname(__file__)}/{name}"))[1:]}
+def planted_with(word, without=""):
+    """The planted stanzas that have a line of this word, and none of another, by their names."""
+    found = {dict(lines).get("name"): lines for lines in stanzas(text_of(f"{os.path.dirname(__file__)}/planted.edits"))}
+    return {name: lines for name, lines in found.items() if word in dict(lines) and without not in dict(lines)}
 
 
-def verdicts_on_edits(planted, crate):
+def verdicts_on_edits(planted, tree):
     """Yields the verdict on each planted edit. One with a line `clause:` is tried under a contract in which that text is a weak one."""
-    bodies = []
+    crates, bodies = {"": tree.crate(CRATE)}, {}
+    for name, lines in planted.items():
+        words = dict(lines)
+        clause, path = words.get("clause", ""), f"crates/{CRATE}/{words['file']}"
+        if clause not in crates:
+            crates[clause] = tree.with_texts({path: tree.texts[path].replace(clause, words["weak"])}).crate(CRATE)
+        try:
+            bodies.setdefault(clause, []).append(wrong_body(edit_of(lines, CRATE), crates[clause]))
+        except BadEdit as why:
+            yield name, Verdict((), str(why))
     with copied([CRATE]) as room:
-        for name, lines in planted.items():
-            words = dict(lines)
-            try:
-                body = wrong_body(edit_of(lines, CRATE), crate)
-                if "clause" not in words:
-                    bodies.append(body)
-                    continue
-                texts, file = texts_of([body.edit], crate), body.functions[0].file
-                texts[file], _ = replaced(texts[file], Change(file, words["clause"], words["weak"]))
-                yield name, verdict_of(room.check(CRATE, body.paths(), texts), CRATE, body.functions)
-            except BadEdit as why:
-                yield name, Verdict((), str(why))
-        for batch in batches_of(bodies, crate):
-            yield from ((body.edit.own, verdict) for body, verdict in judged(room, batch, crate))
+        for clause, some in bodies.items():
+            for batch in batches_of(some, crates[clause]):
+                yield from ((body.edit.own, verdict) for body, verdict in judged(room, batch, crates[clause]))
 
 
 def verdicts_on_definitions(planted, tree):
@@ -66,41 +64,34 @@ def verdicts_on_definitions(planted, tree):
 
 def wrong_verdicts(tree):
     """What is said of each planted edit and each planted definition on which the verdict is not the wanted one."""
-    planted = planted_in("planted.edits")
-    variants = {name: lines for name, lines in planted.items() if "definition" in dict(lines)}
-    edits = {name: lines for name, lines in planted.items() if name not in variants}
-    for name, verdict in itertools.chain(verdicts_on_edits(edits, tree.crate(CRATE)), verdicts_on_definitions(variants, tree)):
+    edits, wrong = planted_with("wanted", "definition"), planted_with("definition")
+    left = {**edits, **wrong}
+    for name, verdict in itertools.chain(verdicts_on_edits(edits, tree), verdicts_on_definitions(wrong, tree)):
         print(f"planted {name}: {'refused: ' + verdict.words() if verdict.is_refused() else verdict.why}", flush=True)
-        wanted = dict(planted.pop(name))["wanted"]
+        wanted = dict(left.pop(name))["wanted"]
         if wanted not in verdict.why if wanted else not verdict.is_refused():
             yield f"planted {name}: this is not `{wanted or 'refused'}`"
-    yield from (f"planted {name}: there is no verdict" for name in planted)
+    yield from (f"planted {name}: there is no verdict" for name in left)
 
 
-def digests(tree, names, edits, variants):
-    """The digests that a tree gives to these: names of wrong bodies, or of wrong definitions with the places that refuse them."""
-    ledger = Ledger(tree, (), {})
-    halves = {it: it.partition(" at ") for it in names}
-    return {it: ledger.digest_at(variants[name], place) if place else ledger.digest(edits[name]) for it, (name, _, place) in halves.items()}
-
-
-def wrong_after_changes(tree, edits, variants):
+def wrong_after_changes(tree, things):
     """What is said of each change after which the ledger still answers for what rests on it, or no more for what does not."""
-    for what, lines in planted_in("changes.edits").items():
+    for what, lines in planted_with("old", "wanted").items():
         words, names = dict(lines), [rest for word, rest in lines if word in ("again", "known")]
         change, wanted = Change(words["file"], words["old"], words["new"]), {rest for word, rest in lines if word == "again"}
-        changed = tree.with_texts({change.file: replaced(tree.texts[change.file], change)[0]})
-        before, after = digests(tree, names, edits, variants), digests(changed, names, edits, variants)
-        again = {name for name in names if before[name] != after[name]}
+        ledgers = Ledger(tree), Ledger(tree.with_texts({change.file: replaced(tree.texts[change.file], change)[0]}))
+        parts = [it.partition(" at ") for it in names]
+        before, after = ([it.digest(things[name], place) for name, _, place in parts] for it in ledgers)
+        again = {name for name, then, now in zip(names, before, after) if then != now}
         print(f"planted change of {what}: {len(again)} of {len(names)} are tried again", flush=True)
-        if again != wanted or not all(before.values()):
+        if again != wanted or not all(before):
             yield f"planted change of {what}: {sorted(again)} are tried again, and not {sorted(wanted)}"
 
 
 def wrong_answers(tree, edits):
     """What is said of each way in which a ledger answers for another wrong body, for another edit, or not as it should for another kit, and
     in which a run would not fail by a definition without a variant."""
-    ledger, names = Ledger(tree, (), {}), [f"{number % 9}/{number}" for number in range(1000)]
+    ledger, names = Ledger(tree), [f"{number % 9}/{number}" for number in range(1000)]
     ledger.said = dict.fromkeys(names, Entry("", ledger.kit, "", ""))
     one, other = edits["hart_values/byte_list/clear_keeps_a_byte"], edits["hart_values/byte_list/len_is_halved"]
     edited = one._replace(changes=tuple(it._replace(new=f"{it.new} ") for it in one.changes))
@@ -118,11 +109,10 @@ def wrong_answers(tree, edits):
     return [f"planted {what}: the answer is wrong" for what, is_right in told.items() if not is_right]
 
 
-def changes(tree):
+def changes(tree, edits, variants):
     """The changes, each in words, with its crate and the texts of the files that it changes."""
     some, found = random.Random(commit()), []
-    variants, _ = definitions.variants(tree, definitions.rows())
-    for it in some.sample(list(every_edit(tree).values()), EACH):
+    for it in some.sample(list(edits.values()), EACH):
         found.append((f"body {it.name()}", it.crate, texts_of([it], tree.crate(it.crate))))
     for it in some.sample(sorted(variants.values()), EACH):
         found.append((f"definition {it.name}", it.crate, it.planted({it.file: tree.crate(it.crate).plain[it.file]})))
@@ -154,21 +144,13 @@ def missed(tree, what, name, texts):
     return wrong + ([] if "logic=" in said else [f"{what}: no verdict"])
 
 
-def status_of(wrong, what):
-    """Tells what is wrong, and returns the status of the run."""
-    print(*wrong, f"mistakes: {len(wrong)} {what}", sep="\n")
-    return 1 if wrong else 0
+def can_fail(tree, edits, variants):
+    """Tries all that is planted, and yields what is said of each that has another outcome than the wanted one."""
+    yield from wrong_after_changes(tree, {**edits, **variants})
+    yield from wrong_answers(tree, edits)
+    yield from wrong_verdicts(tree)
 
 
-def can_fail():
-    """Tries all that is planted, and returns 0 if each has the wanted outcome."""
-    tree = tree_at()
-    edits, (variants, _) = every_edit(tree), definitions.variants(tree, definitions.rows())
-    wrong = [*wrong_after_changes(tree, edits, variants), *wrong_answers(tree, edits), *wrong_verdicts(tree)]
-    return status_of(wrong, "of the planted edits and changes had another outcome than they must have")
-
-
-def against_rattle():
-    tree = tree_at()
-    wrong = list(side_by_side(functools.partial(missed, tree, *it) for it in changes(tree)))
-    return status_of(wrong, "functions are checked anew by the prover, and not by the ledger")
+def against_rattle(tree, edits, variants):
+    """Makes changes at random, and yields what is said of each function that the prover checks anew, and the ledger does not."""
+    yield from side_by_side(functools.partial(missed, tree, *it) for it in changes(tree, edits, variants))

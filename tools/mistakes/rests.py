@@ -7,7 +7,6 @@ code stands for every item of that name in the crate and in the crates below it.
 
 import functools
 import hashlib
-import itertools
 import os
 import re
 from collections import defaultdict
@@ -35,7 +34,7 @@ class Rests:
 
     def __init__(self, tree, name):
         self.own, names = tree.crate(name), [*tree.crates[name].below, name]
-        self.crates = {it: tree.crate(it) for it in names}
+        self.crates, self.below = {it: tree.crate(it) for it in names}, {it: {*tree.crates[it].below, it} for it in names}
         self.lines = [tree.crates[it].line for it in names]
         self.modules = {module: it for crate in self.crates.values() for module, it in crate.modules.items()}
         self.files = {module: (crate, file) for crate in self.crates.values() for module, file in crate.files.items()}
@@ -56,8 +55,8 @@ class Rests:
             if is_outside and not is_public:
                 continue
             shown = self.scope(*self.files[other], True) if other in self.files else {}
-            if names is None:
-                found[other.rpartition(".")[2]].add((other, ""))
+            if isinstance(names, str):
+                found[names].add((other, ""))
                 names = {it: it for it in shown or ("*",)}
             for here, there in names.items():
                 found[here] |= shown.get(there, {(other, there)})
@@ -74,13 +73,11 @@ class Rests:
         """A function's own texts: the attributes of its crate and file, its statement and body, its block as others see it, and its
         written proof."""
         lines = self.own.lines[function.file]
-        top = [it for file in ("src/lib.rt", "src/main.rt", function.file) for it in self.own.lines.get(file, ())]
-        above = list(itertools.takewhile(lambda it: it.strip().startswith("#["), reversed(lines[: function.first])))
         head = next((it for it in reversed(lines[: function.first + 1]) if re.match(r"[^ }]", it)), lines[0])
         blocks = [it.text for it in self.own.items if it.file == function.file and head in it.text.split("\n")] or [head]
         found = [
-            (packed(sorted(it for it in top if it.startswith("#!"))), self.own, ""),
-            (packed([*reversed(above), *lines[function.first : function.last + 1]]), self.own, function.file),
+            (self.own.inner_attributes(function.file), self.own, function.file),
+            (packed([*self.own.attributes_of(function), *lines[function.first : function.last + 1]]), self.own, function.file),
             ("" if head == lines[function.first] else packed(blocks), self.own, function.file),
         ]
         for file in sorted(self.own.files.values()):
@@ -109,10 +106,11 @@ class Rests:
 
 
 class Walk:
-    """A walk from texts along the words in them to all that they can reach: declarations, and items and paths of code."""
+    """A walk from texts along the words in them to all that they can reach: declarations, and items and paths of code. A close one reaches
+    less: a declaration names items of code only by what it imports, and a text names none of crates above its own."""
 
-    def __init__(self, rests, starts):
-        self.rests, self.texts, self.reached, self.words, self.waiting = rests, list(starts), set(), set(), {}
+    def __init__(self, rests, starts, is_close=False):
+        self.rests, self.is_close, self.texts, self.reached, self.words, self.waiting = rests, is_close, list(starts), set(), set(), {}
         while self.texts:
             self.read(*self.texts.pop())
 
@@ -125,35 +123,35 @@ class Walk:
         scope, paths = self.rests.scope(crate, file), crate.paths.get(file, {})
         self.reached.update(Reached(*it) for it in scope.get("*", ()))
         for word in self.rests.words_of(text, crate, file):
-            self.say(word)
+            if not self.is_close or file.endswith(".rt"):
+                self.say(word, crate)
             for path in paths.get(word, ()):
                 self.reached.add(Reached("use", path))
                 for it in WORD.findall(path.rpartition("::")[2]):
-                    self.say(it)
+                    self.say(it, crate)
             for target in scope.get(word, ()):
-                self.declare(*target)
+                self.declare(*target, crate)
 
-    def say(self, word):
-        """Takes up the items of code that a word may name. A method waits until its type is named, too."""
-        if word in self.words:
-            return
+    def say(self, word, crate):
+        """Takes up the items of code that a word may name in a crate. A method waits until its type is named, too."""
+        at = self.rests.below[crate.name] if self.is_close else self.rests.crates.keys()
+        found = [] if word in self.words else [*self.waiting.pop(word, ()), *self.rests.impls.get(word, ())]
         self.words.add(word)
-        found = [*self.waiting.pop(word, ()), *self.rests.impls.get(word, ())]
-        for it in self.rests.items.get(word, ()):
+        for it in [it for it in self.rests.items.get(word, ()) if it.crate in at and it not in self.reached]:
             is_named = not it.of or it.of in self.words or it.of not in self.rests.types
             (found if is_named else self.waiting.setdefault(it.of, [])).append(it)
         for it in found:
             self.reach(it, self.rests.crates[it.crate], it.file)
 
-    def declare(self, module, name):
-        """Takes up a declaration, or what stands for it."""
+    def declare(self, module, name, crate):
+        """Takes up a declaration that a crate names, or what stands for it."""
         declared = self.rests.modules.get(module, {})
         if name in declared:
             self.reach(Reached(module, name, declared[name].seen), *self.rests.files[module])
         elif "." in module and module.split(".")[1] in self.rests.crates:
             # The prover made this module. Its path names a type or a function.
             for it in [*module.split(".")[-3:], name]:
-                self.say(it)
+                self.say(it, crate)
         else:
             self.reached.add(Reached(module, name))
 

@@ -1,6 +1,7 @@
 """The crates of a repository as texts, without comments: their items, and the declarations of their definitions and proofs."""
 
 import glob
+import itertools
 import os
 import re
 from typing import NamedTuple
@@ -9,11 +10,13 @@ from kit import ROOT, crates_in, text_of
 from mistakes.code import DECLARED, functions_in, items_in, module_of, packed, without_comments
 
 NOTE = re.compile(r"^\s*--(?![\w◌]).*\n?", re.M)
-USE = re.compile(r"^ *(pub )?(?:ghost )?use (Rattle\.[^\s{;]+?)(?:\.\{([^}]*)\}| as \w+)?;?$", re.M)
+USE = re.compile(r"^ *(?:unfoldable )?(pub )?(?:ghost )?use (Rattle\.[^\s{;]+?)(?:\.\{([^}]*)\}| as (\w+))?;?$", re.M)
 NO_DECLARATION = re.compile(r"(?:unfoldable )?(?:pub )?(?:use|mod) |infix")
 # A declaration begins with such a word, or with its name, which may be an operator, and a colon.
-HEAD = re.compile(r"((?:(?:pub|abbrev|unfoldable|opaque|record|data) )+(?=\S)|(?=\S+ :))([^\s:]+)(?: |$)")
+HEAD = re.compile(r"((?:(?:pub|abbrev|unfoldable|opaque|record|data|ruleset) )+(?=\S)|(?=\S+ :))([^\s:]+)(?: |$)")
 INNER = re.compile(r"^((?:mutual|module\b(?:.|\n    )*? where)\n)((?:  .*\n?)+)", re.M)
+# What an attribute of code gives the tactics, by paths of code.
+GIVEN = re.compile(r"\b(?:using|unfolding)\(([^()]*)\)")
 CODE_USE = re.compile(r"(?m)^ *(?:pub(?:\([^)]*\))? )?use ((?!Rattle\.)[^;]*);")
 
 
@@ -30,12 +33,20 @@ def module_at(crate, file):
 
 
 def uses_of(text):
-    """The names that a text takes from elsewhere: whether it passes them on, their module, and those there by those here; None for all."""
+    """The names that a text takes from elsewhere: whether it passes them on, their module, and those there by those here; of one that it
+    takes whole, the name here."""
     found = []
-    for is_public, module, names, in USE.findall(text):
+    for is_public, module, names, here in USE.findall(text):
         pairs = [it.partition(" as ") for it in names.split(", ")]
-        found.append((bool(is_public), module, {here or there: there for there, _, here in pairs} if names else None))
+        taken = {own or there: there for there, _, own in pairs} if names else here or module.rpartition(".")[2]
+        found.append((bool(is_public), module, taken))
     return found
+
+
+def given_by(text, crate):
+    """The names that attributes of a file of code give the tactics, in the form of `uses_of`."""
+    paths = [it.strip().split("::") for given in GIVEN.findall(text) for it in given.split(",") if it.strip()]
+    return [(False, ".".join(["Rattle", crate if at == "crate" else at, *inside]), {name: name}) for at, *inside, name in paths]
 
 
 def paths_of(text):
@@ -81,13 +92,28 @@ class CrateTexts:
         self.functions = {it.path: it for found in self.by_file.values() for it in found}
         self.items = [it for file, found in self.by_file.items() for it in items_in(name, file, plain[file], found)]
         self.uses, self.paths = {it: uses_of(text) for it, text in plain.items()}, {it: paths_of(plain[it]) for it in self.by_file}
+        for file in self.by_file:
+            self.uses[file] += given_by(f"{self.inner_attributes(file)}\n{plain[file]}", name)
         self.plain = {it: packed(lines) for it, lines in self.lines.items() if it not in self.by_file}
         self.files = {module_at(name, it): it for it in self.plain}
         self.modules = {at: declarations_of(self.plain[it], it.startswith("specs/")) for at, it in self.files.items()}
 
+    def inner_attributes(self, file):
+        """The attributes that stand atop the crate, the modules around a file of code, and the file."""
+        folders = file.split("/")[:-1]
+        files = ["src/lib.rt", "src/main.rt", *(f"{'/'.join(folders[:it])}.rt" for it in range(2, len(folders) + 1)), file]
+        return packed(sorted(it for at in files for it in self.lines.get(at, ()) if it.startswith("#!")))
+
+    def attributes_of(self, function):
+        """The attributes on a function."""
+        above = reversed(self.lines[function.file][: function.first])
+        return list(itertools.takewhile(lambda it: it.strip().startswith("#["), above))[::-1]
+
     def modules_read_with(self, function):
-        """The modules of lemmas that are checked with a function, since its written proof takes names from them."""
-        found = [at for at, it in self.files.items() if os.path.dirname(it) == function.proofs()]
+        """The modules of lemmas that are checked with a function, since its written proof or its attributes take names from them."""
+        given = given_by("\n".join([self.inner_attributes(function.file), *self.attributes_of(function)]), self.name)
+        found = [at for _, at, _ in given if at in self.files]
+        found += [at for at, it in self.files.items() if os.path.dirname(it) == function.proofs()]
         for at in found:
             found += {it for _, it, _ in self.uses[self.files[at]] if it in self.files} - {*found}
         return {at for at in found if re.match(r"proofs/(?:lemmas/|[^/]*$)", self.files[at])}
