@@ -76,7 +76,8 @@ test: hart
 	sh tools/refused-growths.sh
 	sh tools/streams.sh
 	sh tools/examples.sh
-	sh tools/vectors.sh
+	python3 tools/vectors.py ./hart --check
+	python3 tools/serve.py ./hart
 	python3 tools/vector_bugs.py
 	python3 tools/vector_bugs.py --random ./hart
 	python3 tools/bench.py ./hart

@@ -39,12 +39,12 @@ from hart_bench.watch import Watch  # noqa: E402
 
 CHARACTER = 11 / 1200
 DEVICE = "37420A1B2C"
-# What a sending of Command 1 takes without a reply: 8 characters of silence, 29 of the message, and 33 of waiting.
+# The time that a sending of Command 1 takes without a reply: 8 characters of silence, 29 of the message, and 33 of waiting.
 DEAD_SENDING = (8 + 29 + 33) * CHARACTER
 SLACK = 0.5
 QUICK = 1.0
 LIMIT = 0.305
-# How often hart-ask, hart master and the device wake for a character.
+# How often hart-ask, hart master and the device wake up for a character.
 WAKINGS = 3
 NOISE = b"\x55" * 64
 NOWHERE = "/dev/null/none"
@@ -163,7 +163,7 @@ def asked(device, program, row):
     """Runs hart-ask on a row. Returns what it wrote and its status, its time, and how late a busy machine may make it."""
     device.ends, device.heard = False, 0
     hearing = threading.Thread(target=device.run, args=(row,))
-    # What the bench says of the line is not shown.
+    # The bench's output about the line is not shown.
     with open(os.devnull, "w", encoding="utf-8") as nowhere, contextlib.redirect_stdout(nowhere), Busy() as busy:
         hearing.start()
         start = time.monotonic()

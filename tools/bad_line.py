@@ -28,9 +28,10 @@ from hart_bench.requests import OWN_ADDRESS, message, request  # noqa: E402
 
 SENDINGS = 4
 MOST_RUNS = 5
-# After so many seconds a device ends by itself.
+# After this many seconds a device ends by itself.
 LIFE = "300"
-# What ends a message here. The gateway and the devices take 50 ms, and so the longer silence between two messages for a device.
+# The silence that ends a message here, and the silence between two messages for a device, in seconds. The latter is longer, since the
+# gateway and the devices end a message after 50 ms.
 GAP, SILENCE = 0.015, 0.1
 # How long a device may take for a reply, in seconds.
 PATIENCE = 0.3
@@ -39,12 +40,12 @@ COUNTER = slice(83, 85)
 FOREIGN = "foreign"
 OTHER = Unique(0x1234, 0x56789A)
 BUSY_PAYLOAD = b"\x20\x00"
-# What happens to the first sendings; after these all goes well. The last four in a row are one too many.
+# What happens to the first sendings; all later ones go well. The last four fail all sendings of one request.
 PLAN = ("ok", FOREIGN, f"{LOSE}-{REQUEST}", f"{FLIP}-{REQUEST}", f"{CUT}-{REQUEST}", f"{NOISE}-{REQUEST}", f"{LOSE}-{REPLY}",
         f"{FLIP}-{REPLY}", f"{CUT}-{REPLY}", f"{NOISE}-{REPLY}", BUSY, FOREIGN,
         f"{FLIP}-{REPLY}", BUSY, f"{LOSE}-{REQUEST}", f"{CUT}-{REPLY}")
 DAMPING = 34
-# How often a request is sent with a command and data, and the response code and the data that it is answered with.
+# How often a request is made, its command and data, and the response code and the data of the reply.
 OWN = ((6, DAMPING, "40400000", 0, ", data 40400000"), (1, DAMPING, "404000", 5, ""), (1, DAMPING, "42740000", 3, ""),
        (1, DAMPING, "BF800000", 4, ""), (1, DAMPING, "7FC00000", 4, ""), (1, 15, "", 0, ", data [0-9A-F]*4040000000FA00"))
 COUNT = 128
@@ -169,7 +170,7 @@ class BadLine:
     def play(self, words):
         """Lets a gateway with these words talk to the device, and returns the replies that it must have printed."""
         self.lines = []
-        # A pseudo-terminal has no parity. The C library refuses attributes of which it can set none anew.
+        # A pseudo-terminal has no parity. The C library refuses attributes if it can make none of the changes.
         tty.setraw(self.terminal)
         gateway = subprocess.Popen([words[0], os.ttyname(self.terminal), *words[1:]], stdout=subprocess.PIPE, text=True)
         while gateway.poll() is None:
@@ -217,7 +218,7 @@ def try_own(gateway, program):
     with started(program) as device:
         line = BadLine(device, PLAN)
         count = sum(ask_own(line, gateway, *row) for row in OWN)
-        # Before it counts, it has replied to Command 0.
+        # The count includes the earlier reply to Command 0.
         count += ask_own(line, gateway, 1, COUNT, "", 0, f", data {device.replies + 1:04X}")
         device.end()
     return count

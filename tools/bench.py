@@ -36,7 +36,7 @@ BUG = "8"
 GAP_MS, DELAY_MS = "15", "40"
 DELIVERIES = 20000
 AT_PORT = 60
-# Faults after which a master has its reply.
+# Faults after which a master still has its reply.
 HARMLESS = (NONE, "noise-request", "noise-reply", "busy", "delay")
 RULES = {ENDLESS: "too often", CHANGED: "changed", SHORT: "given up", HASTY: "too soon"}
 NO_DIFFERENCE = re.compile(r"^no difference in (\d+) deliveries; seed \d+$", re.MULTILINE)

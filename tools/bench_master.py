@@ -11,7 +11,7 @@ from hart_bench.requests import OWN_ADDRESS
 
 RIGHT, ENDLESS, CHANGED, SHORT, HASTY = "right", "retries without end", "changed data on a retry", "gives up too soon", "does not wait"
 SENDINGS = 4
-# What a wrong master does that never gives up is ended after so many sendings.
+# A wrong master that never gives up is stopped after this many sendings.
 ENOUGH = 7
 LIMIT = 0.3
 GAP = 0.02

@@ -111,7 +111,7 @@ def next_tasks(every, left, running, done, lanes):
     """The libraries that can begin now, each with its jobs: a processor each, and more where too few can run to use them all. What cannot be
     shared out evenly goes to the first, since the others wait for it."""
     ready = [it for it in left if set(every[it].below) <= done]
-    # Those with the most code above them come first.
+    # Those below the most other crates come first.
     ready.sort(key=lambda it: -sum(it in other.below for other in every.values()))
     idle, found = lanes - sum(jobs for _, _, jobs in running.values()), []
     for at, name in enumerate(ready):

@@ -5,7 +5,7 @@ import threading
 import time
 
 STEP = 0.009
-# How late a sleep ends at most on an idle machine.
+# How many seconds late a sleep may end on an idle machine.
 ON_TIME = 0.002
 TRIES = 5
 

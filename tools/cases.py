@@ -16,7 +16,8 @@ FAULT_BITS = (0x40, 0x20, 0x10, 0x02)
 ALL_FAULT_BITS = sum(FAULT_BITS)
 COUNTER_BYTES = 2
 
-# The words TO and FROM of the rows of garbled requests in docs/WIRE.md; a row of what is heard; and a cell that can be a reply.
+# What TO and FROM stand for in the rows of garbled requests in docs/WIRE.md. Then the patterns of a row that begins with what is heard,
+# and of a cell that can be a reply.
 WORDS = {word: digits for word, digits in re.findall(r"\b(TO|FROM) (?:stands )?for\s+`([0-9A-F ]+)`", WIRE)}
 ROW = re.compile(r"^\| ((?:TO )?`[0-9A-F! ]+`) \| (.+?) \|", re.MULTILINE)
 CODE_CELL = re.compile(r"(?:TO |FROM )?`[0-9A-F! ]+`")

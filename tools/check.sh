@@ -1,15 +1,16 @@
 #!/usr/bin/env bash
 # Runs the gate, with its own status:
 #
-#   - `rt ci` proves every crate from nothing, with its tests, and runs the program and the tests. It works on a copy of the crates
+#   - `rt ci` proves every crate from scratch, with its tests, and runs the program and the tests. It works on a copy of the crates
 #     without their wrong bodies, since it would prove a crate once more for its first wrong body.
 #   - Beside it, on processors that it leaves idle, the library for C is built in the tree, and then tools/mistakes.py tries the wrong
 #     bodies whose refusal may have changed, and a sample of the others. Scripts that need no program follow.
-#   - As soon as `rt ci` has built the program, scripts run on it side by side, beside the proofs of the tests. What needs these tests, and
-#     what measures times, comes at the end.
+#   - As soon as `rt ci` has built the program, scripts run on it side by side, beside the proofs of the tests. Scripts that need these
+#     tests or measure times come at the end.
 #
-# What a script says is kept together. At the end the gate says what all of it cost, and which scripts failed. The last line counts what
-# passed and failed: crates, programs and tests of `rt ci`, wrong bodies, scripts. What `rt ci` printed stands in build/logs/ci.log.
+# The output of each script is printed in one piece. At the end the gate says what all of it cost, and which scripts failed. The last line
+# counts what passed and failed: crates, programs and tests of `rt ci`, wrong bodies, scripts. The output of `rt ci` is in
+# build/logs/ci.log.
 set -u
 cd "$(dirname "$0")/.." || exit 1
 work=$(mktemp -d)
@@ -63,26 +64,26 @@ run_all() {
     wait
 }
 
-# Waits until `rt ci` has built the program, which it does after it has proved it, or has ended.
+# Waits until `rt ci` has proved and built the program, or has ended.
 until_built() {
     until { grep -q "^rt: hart proved" "$log" && [ -x "$program" ]; } || [ ! -e "$work/proving" ]; do
         sleep 1
     done
 }
 
-# The library for C, the wrong bodies over what its proof has left in the tree, and the scripts that use either.
+# Builds the library for C, tries the wrong bodies on what its proof has left in the tree, and runs the scripts that use either.
 beside() {
     renice -n 10 "$BASHPID" >/dev/null
     python3 tools/build.py --jobs 1 hart_c && (cd crates/hart_c && rt lib --jobs 1) >build/logs/hart_c.log 2>&1
     RT_JOBS=2 python3 tools/mistakes.py --gate
     run_all "python3 tools/mistakes.py --can-fail" "sh tools/held-view.sh" "python3 tools/vector_bugs.py"
     until_built
-    # Each of these builds the library, and a crate is built for one target at a time.
+    # These run one after the other: each builds the library, and a crate is built for one target at a time.
     run_on_program "sh tools/library-examples.sh $program && sh tools/library-examples.sh --target aarch64-linux-gnu $program && \
 sh tools/packages.sh $program && sh examples/cortex-m/run.sh"
 }
 
-# Runs scripts on the program. Each of them has failed if there is none.
+# Runs scripts on the program. Without a program each of them counts as failed.
 run_on_program() {
     if [ -x "$program" ]; then
         run_all "$@"
@@ -99,7 +100,7 @@ scripts=(
     "python3 tools/report.py $program"
     "sh tools/runs.sh $program"
     "sh tools/streams.sh $program"
-    "sh tools/vectors.sh $program"
+    "python3 tools/vectors.py $program --check && python3 tools/serve.py $program"
     "sh tools/manual.sh $program"
     "python3 tools/schema.py $program"
 )
@@ -130,7 +131,7 @@ run_on_program "python3 tools/ask.py $program"
 passed=$((passed + $(wc -l <"$work/passed")))
 failed=$((failed + $(wc -l <"$work/failed")))
 
-# `times` has to run in this shell, which waited for all of it.
+# `times` has to run in this shell, which waited for all scripts.
 times >"$work/times"
 read -r user system < <(tail -n 1 "$work/times")
 echo "processor time: $user user, $system system; $((SECONDS / 60)) minutes on $(nproc) processors"

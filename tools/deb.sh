@@ -1,8 +1,8 @@
 #!/bin/sh
 # Makes packages for Debian of a built program and a built library: `hart` has what `make install` installs, `libhart0` has libhart.so.0,
-# and `libhart-dev` has what else a program in C needs, with the examples. For arm64 the library alone is packed. `dpkg-deb` alone makes
-# them: what is packed is built by the toolchain, which Debian does not have. The vectors are in share/hart, since no program may need a
-# file of share/doc.
+# and `libhart-dev` has the rest that a program in C needs, with the examples. For arm64 only the library is packed. `dpkg-deb` alone
+# makes the packages, since their contents are built by the toolchain, which Debian does not have. The vectors are in share/hart, since
+# no program may need a file of share/doc.
 #
 # Usage: tools/deb.sh FOLDER PROGRAM LIBRARY [LIBRARY_FOR_ARM64]. The packages are put into FOLDER. A LIBRARY is a folder with libhart.a
 # and libhart.so.0. DEBFULLNAME and DEBEMAIL name the maintainer. All files get the time SOURCE_DATE_EPOCH, or that of the last commit.
@@ -19,7 +19,7 @@ umask 022
 version=$(sh tools/version.sh)
 maintainer="${DEBFULLNAME:-Heldruva maintainers} <${DEBEMAIL:-maintainers@users.noreply.heldruva.example}>"
 SOURCE_DATE_EPOCH=${SOURCE_DATE_EPOCH:-$(git log -1 --format=%ct)}
-# dpkg-deb reads it.
+# dpkg-deb reads this variable.
 export SOURCE_DATE_EPOCH
 
 # The least version of the C library that a file needs.
@@ -41,7 +41,7 @@ begin() {
 
 # Packs the folder of a package. Arguments: architecture, section, further fields, one line of description, and its other lines.
 finish() {
-    # The files of control are written after the size is known.
+    # The control files are written after the size is known.
     size=$(du -k --apparent-size -s "$root/usr" | cut -f 1)
     {
         printf 'Package: %s\nSource: hart\nVersion: %s\nArchitecture: %s\nMaintainer: %s\nInstalled-Size: %s\n' \
@@ -71,14 +71,14 @@ hart-listen listens at a serial port, hart-report makes a page of a
 capture, and hart-bench tries devices and masters.'
 }
 
-# Packs the library in a folder. Arguments: the folder, the architecture, and the name of the target of GNU.
+# Packs the library in a folder. Arguments: the folder, the architecture, and the GNU name of the target.
 pack_library() {
     begin libhart0 "$2"
     install -d "$root/usr/lib/$3"
     install -m 644 "$1/libhart.so.0" "$root/usr/lib/$3"
     "$3-strip" --strip-unneeded "$root/usr/lib/$3/libhart.so.0"
     printf 'libhart 0 libhart0 (>= %s)\n' "$version" >"$root/DEBIAN/shlibs"
-    # A program that calls the library asks for this version at least.
+    # A program that calls the library requires at least this version.
     {
         printf 'libhart.so.0 libhart0 #MINVER#\n* Build-Depends-Package: libhart-dev\n'
         "$3-nm" -D --defined-only "$1/libhart.so.0" | awk -v version="$version" '{ print " " $3 "@Base " version }' | sort

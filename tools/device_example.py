@@ -24,10 +24,10 @@ from restarts import runs, script_of  # noqa: E402
 from vectors import call, replies_of  # noqa: E402
 
 SECONDS = "60"
-# How many seconds of silence are waited for: much longer than the device waits for a byte.
+# How many seconds without a reply count as silence: much longer than the device waits for a byte.
 QUIET = 0.5
 PATIENCE = 20
-# A reply that comes in pieces further apart is put together here.
+# The silence after which a piece of a reply ends. Several pieces of a reply are put together here.
 GAP = 0.005
 
 

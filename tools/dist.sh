@@ -1,6 +1,6 @@
 #!/bin/sh
 # Makes tarballs of a built program and a built library, for systems without the toolchain. hart-VERSION-x86_64-linux.tar.gz has what
-# `make install` and `make install-library` install, below one folder that may stand anywhere. For aarch64 there is the library alone.
+# `make install` and `make install-library` install, below one folder that may stand anywhere. For aarch64 there is only the library.
 #
 # Usage: tools/dist.sh FOLDER PROGRAM LIBRARY [LIBRARY_FOR_AARCH64]. The tarballs are put into FOLDER. A LIBRARY is a folder with libhart.a
 # and libhart.so.0. All files get the time SOURCE_DATE_EPOCH, or that of the last commit.

@@ -14,7 +14,7 @@ ln -s "$program" "$work/folder/hart"
 ln -s "$PWD/docs" "$work/folder/docs"
 ln -s "$PWD/tools" "$work/folder/tools"
 ln -s "$PWD/examples" "$work/folder/examples"
-# The program is made already.
+# The program is built already, so `make` does nothing here.
 printf '#!/bin/sh\n' >"$work/bin/make"
 chmod +x "$work/bin/make"
 PATH=$work/bin:$PATH

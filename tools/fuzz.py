@@ -33,7 +33,7 @@ LONGEST_TOGETHER = 10_000
 BETWEEN = b" 00!40 "
 MOST_SHRUNK = 10
 MOST_SHOWN = 2000
-# A pipe of packets has room for 256 of them, if it may have 1 MiB.
+# A pipe of packets with 1 MiB has room for 256 packets.
 PIPE_BYTES = 1 << 20
 MOST_ODD, LATER_PORTION, LONGEST_PORTIONED = 200, 512, 20_000
 

@@ -1,7 +1,7 @@
 #!/bin/sh
-# Looks in tools, Makefile and .ci for names that belong to the inside of `rt`: its modules and functions, and the folders and files that
-# it makes for itself. Another version of the toolchain has others. Documented commands and flags of `rt` are the same in all. Prints each
-# such line, and fails if there is one. A bracket in a pattern below keeps it from finding itself.
+# Looks in tools, Makefile and .ci for internal names of `rt`: its modules and functions, and the folders and files that it makes for
+# itself. They differ between versions of the toolchain; documented commands and flags of `rt` do not. Prints each line with such a name,
+# and fails if there is one. The brackets in the patterns below keep the patterns from matching themselves.
 #
 # Usage: tools/kits.sh [FOLDER]; FOLDER is the repository if absent.
 set -eu

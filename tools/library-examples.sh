@@ -1,10 +1,9 @@
 #!/bin/sh
-# Holds include/hart.h against the source, makes the library, and makes each call of the header from C, which has to do what
-# tools/library_calls.c says with its rows. Measures the stack of calls, and makes random calls, which have to give the same on each
-# target. Then it builds the examples without a warning, and runs them. On captures they have to
-# print just what the program does, whether a capture comes at once or byte by byte. The example of fields has to print what is
-# written here, and the device examples have to reply just as the program does, for hart-bench too. The gateway has to read the devices at a
-# bad line.
+# Compares include/hart.h with the source, builds the library, and makes each call of the header from C; the results must be those in the
+# rows of tools/library_calls.c. Measures the stack of calls, and makes random calls, whose results must be the same on each target. Then
+# it builds the examples without a warning, and runs them. On captures they must print exactly what the program prints, whether a capture
+# comes at once or byte by byte. The example of fields must print what is written below, and the device examples must reply exactly as the
+# program does, also to hart-bench. The gateway must read the devices at a bad line.
 #
 # A C compiler and Python are needed. C++ and Rust are tried where they are found, and so are the sanitizers of the C compiler.
 #
@@ -94,8 +93,8 @@ if [ -z "$target" ]; then
     "$work/library_stack"
 fi
 
-# What the calls do with 100,000 rounds of pseudo-random arguments. The hash is the same for each target. It changes only with
-# tools/library_random.c, or if a call does something else than before.
+# A hash of the results of 100,000 rounds of calls with pseudo-random arguments. It is the same for each target. It changes only with
+# tools/library_random.c, or if the result of a call changes.
 random_hash=e5cb01c1126006c1
 build tools/library_random.c
 hash=$("$work/library_random" 100000 2>"$work/said")
@@ -129,7 +128,7 @@ hold() {
     ran=$((ran + 1))
 }
 
-# Talks to the device at its pseudo-terminal; one that nobody talks to ends by itself.
+# Talks to the device at its pseudo-terminal. A device that nobody talks to ends by itself.
 talk() {
     timeout 120 python3 tools/device_example.py "$program" "$work/device"
     timeout 10 "$work/device" 0.1 >"$work/said"
@@ -161,18 +160,18 @@ build examples/c/own_command.c $checks
 build examples/c/gateway.c $checks
 timeout 600 python3 tools/bad_line.py "$work/gateway" "$work/device" "$work/own_command"
 ran=$((ran + 2))
-# A reply of Command 1, Command 11 with too few data, and a write.
+# A reply of Command 1 after a cold start, Command 11 with too few data, and a write.
 cat >"$work/fields" <<'FIELDS'
-reply, Command 1, read primary variable, code 0
-    primary variable unit: 20
+reply, Command 1, read primary variable, success, cold start
+    primary variable unit: degrees Celsius
     primary variable: 25
-request, Command 11, read unique identifier associated with tag, code 5
-request, Command 19, write final assembly number, code 0
+request, Command 11, read unique identifier associated with tag, too few data bytes
+request, Command 19, write final assembly number, success
     final assembly number: 01 23 45
 FIELDS
 $cc -std=c11 $strict -Iinclude examples/c/fields.c "$work/libhart.a" -o "$work/fields_c"
 emulate fields_c
-printf '%s' FFFF86B7420A1B2C010700002041C80000E1 FFFFE28000000000AABBCC0B01FF4A FFFF82B7420A1B2C13030123453D |
+printf '%s' FFFF86B7420A1B2C010700202041C80000C1 FFFFE28000000000AABBCC0B01FF4A FFFF82B7420A1B2C13030123453D |
     xxd -r -p >"$work/replies_heard"
 "$work/fields_c" <"$work/replies_heard" >"$work/fields_written"
 cmp "$work/fields" "$work/fields_written"

@@ -1,11 +1,11 @@
 #!/bin/sh
-# Makes libhart.a and libhart.so of the proved static library of hart_c. They offer the calls of include/hart.h and no other symbol. Of
-# the C library they need memcpy, memmove and memset; with a further undefined symbol the build fails. libhart.so is a link to
+# Makes libhart.a and libhart.so from the proved static library of hart_c. They offer the calls of include/hart.h and no other symbol.
+# From the C library they need memcpy, memmove and memset; any other undefined symbol makes the build fail. libhart.so is a link to
 # libhart.so.0, whose number grows when a program that was built with an earlier one would not run with it.
 #
-# Usage: tools/library.sh [--target TARGET] FOLDER; the folder is where both are put. TARGET is aarch64-linux-gnu, or absent for
+# Usage: tools/library.sh [--target TARGET] FOLDER; both libraries are put into FOLDER. TARGET is aarch64-linux-gnu, or absent for
 # x86-64; its tools are TARGET-gcc (or $CC), TARGET-objcopy, TARGET-nm and TARGET-ar. `rt lib` proves hart_c for the target and
-# builds it, with as many jobs as RT_JOBS says. It begins with what earlier checks kept; without them it takes some minutes.
+# builds it, with as many jobs as RT_JOBS says. It reuses the results of earlier checks; without them it takes some minutes.
 set -eu
 target=
 if [ "$1" = --target ]; then

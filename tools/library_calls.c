@@ -67,7 +67,7 @@ static bool is_reading(hart_reading told, hart_reading want)
            told.status == want.status && told.fault == want.fault;
 }
 
-static void data_are_read_and_named(void)
+static void data_are_read(void)
 {
     for (size_t row = 0; row < ROWS(data_rows); row++) {
         const struct data_row *want = &data_rows[row];
@@ -79,14 +79,36 @@ static void data_are_read_and_named(void)
         bool holds = is_reading(told, want->told) && memcmp(fields, want->fields, sizeof fields) == 0;
         check(holds, __func__, want->is_reply ? "hart_read_reply" : "hart_read_request", row);
     }
+}
+
+/* Asks for a name. */
+static hart_outcome name_of(const struct name_row *want, uint8_t *name)
+{
+    switch (want->what) {
+    case COMMAND:
+        return hart_command_name(want->command, name, want->room);
+    case FIELD_OF_REQUEST:
+    case FIELD_OF_REPLY:
+        return hart_field_name(want->what == FIELD_OF_REPLY, want->command, want->number, name, want->room);
+    case UNIT:
+        return hart_unit_name(want->number, name, want->room);
+    case CODE:
+        return hart_code_name(want->command, want->number, name, want->room);
+    case STATUS_BIT:
+        return hart_status_name(want->number, name, want->room);
+    default:
+        return hart_comm_fault_name(want->number, name, want->room);
+    }
+}
+
+static void names_are_written(void)
+{
     uint8_t name[NAME_ROOM] = {0};
     for (size_t row = 0; row < ROWS(name_rows); row++) {
         const struct name_row *want = &name_rows[row];
-        hart_outcome told = want->is_of_field
-                                ? hart_field_name(want->is_reply, want->command, want->index, name, want->room)
-                                : hart_command_name(want->command, name, want->room);
+        hart_outcome told = name_of(want, name);
         bool holds = is_outcome(told, want->told.len, want->told.fault) && memcmp(name, want->held, NAME_ROOM) == 0;
-        check(holds, __func__, want->is_of_field ? "hart_field_name" : "hart_command_name", row);
+        check(holds, __func__, "a name", row);
     }
 }
 
@@ -309,6 +331,33 @@ static void a_message_is_found_read_and_written(void)
     check(is_outcome(read, 12, HART_OK) && is_write(&decoded, 0), __func__, "hart_decode", 0);
 }
 
+/* Each message is explained in just as much room as its text needs, and not in less. */
+static void messages_are_explained(void)
+{
+    static uint8_t text[HART_EXPLAINED_LEN + 1], kept[HART_EXPLAINED_LEN + 1];
+    hart_frame frame = {0};
+    for (size_t row = 0; row < ROWS(explained_rows); row++) {
+        const struct explained_row *want = &explained_rows[row];
+        uint8_t heard[LONGEST] = {0};
+        size_t len = strlen(want->text);
+        memset(text, 0x7F, sizeof text);
+        memset(kept, 0x7F, sizeof kept);
+        hart_find_in_bytes(heard, read_bytes(want->heard, heard), true, &frame, 1);
+        hart_outcome told = hart_explain(want->style, &frame, text, len - 1);
+        bool is_kept = memcmp(text, kept, sizeof text) == 0;
+        check(is_outcome(told, 0, HART_NO_ROOM) && is_kept, __func__, "hart_explain without room", row);
+        memcpy(kept, want->text, len);
+        told = hart_explain(want->style, &frame, text, len);
+        bool is_text = memcmp(text, kept, sizeof text) == 0;
+        check(is_outcome(told, len, HART_OK) && is_text, __func__, "hart_explain", row);
+    }
+    hart_outcome told = hart_explain(2, &frame, text, HART_EXPLAINED_LEN);
+    check(is_outcome(told, 0, HART_BAD_STYLE), __func__, "hart_explain", ROWS(explained_rows));
+    frame.payload_len = 1;
+    told = hart_explain(2, &frame, text, HART_EXPLAINED_LEN);
+    check(is_outcome(told, 0, HART_TOO_SHORT_REPLY), __func__, "hart_explain", ROWS(explained_rows) + 1);
+}
+
 static void faults_of_characters_are_heard(void)
 {
     hart_char heard[LONGEST] = {{0}};
@@ -383,7 +432,8 @@ static void faults_have_texts_and_floats_have_bytes(void)
 int main(void)
 {
     faults_have_texts_and_floats_have_bytes();
-    data_are_read_and_named();
+    data_are_read();
+    names_are_written();
     a_device_answers_and_is_kept();
     a_maker_answers_commands_of_its_own();
     a_reply_is_accepted_and_gives_an_address();
@@ -391,6 +441,7 @@ int main(void)
     a_master_sends_until_it_is_answered();
     each_number_has_its_place();
     a_message_is_found_read_and_written();
+    messages_are_explained();
     faults_of_characters_are_heard();
     marks_of_a_port_are_read();
     texts_are_packed_and_unpacked();

@@ -14,7 +14,7 @@ static const int port = 1;
 
 /* How often an example did what it is there for. */
 static struct {
-    size_t told, shown, sent, stored;
+    size_t told, shown, lines, sent, stored;
 } counts;
 
 static ssize_t deliver(int from, uint8_t *bytes, size_t room)
@@ -34,6 +34,16 @@ static void tell(const hart_frame *frame, uint64_t start)
 static void show(const uint8_t *bytes, size_t len, uint8_t kind)
 {
     counts.shown += kind == HART_FLOAT && len == 4 && hart_float(bytes) == 25.0f;
+}
+
+/* The lines of a bad date, of a changed configuration and of a cold start. */
+static void write_line(const uint8_t *text, size_t len)
+{
+    static const char *const lines[] = {"invalid date", "configuration changed", "cold start"};
+    if (len == 0)
+        return;
+    const char *line = counts.lines < 3 ? lines[counts.lines] : "";
+    counts.lines += len == strlen(line) && memcmp(text, line, len) == 0;
 }
 
 static void send_message(int to, const uint8_t *message, size_t len)

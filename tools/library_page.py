@@ -9,12 +9,15 @@ import re
 TOP = pathlib.Path(__file__).parents[1]
 BLOCK = re.compile(r"^```c\n(.*?)^```$", re.MULTILINE | re.DOTALL)
 
-# What an example finds in place before it, and what has to hold after it.
+# For each example, the code before it, and the check after it.
 AROUND = [
     ("", 'check(counts.told == 1, "finding frames");'),
     ("uint8_t bytes[1024] = {0xFF, 0xFF, 0xFF, 0x00, 0x82, 0xFF}; size_t held = 6; hart_char heard[1024];",
      'check(held == 1 && read_in.len == 2 && heard[1].faults == 0x40, "marks");'),
+    ("hart_frame frame; hart_decode(delivered + 2, sizeof delivered - 2, &frame);",
+     'check(explained.len > 21 && memcmp(text, "0-16: reply of device", 21) == 0, "explaining messages");'),
     ("hart_frame frame; hart_decode(delivered + 2, sizeof delivered - 2, &frame);", 'check(counts.shown == 1, "fields");'),
+    ("hart_frame frame = {.command = 18, .payload = {9, 0x60}};", 'check(counts.lines == 3, "names");'),
     ("hart_field fields[16];", 'check(write.payload_len == 24 && write.payload[0] == 0x38, "filling fields");'),
     ("", 'check(at.is_given && counts.sent == 3 && last.sendings == 3, "a master");'),
     ("hart_char heard[1025]; size_t heard_len;", 'check(counts.stored == 2 && counts.sent == 5, "a device");'),

@@ -36,7 +36,7 @@ _Static_assert(HART_OK == 0 && HART_TOO_SHORT_REPLY == 1 && HART_BAD_PREAMBLE ==
                    HART_BROADCAST_ADDRESS == 17 && HART_BAD_VERSION == 18 && HART_BAD_LENGTH == 19 &&
                    HART_BAD_FIELD == 20 && HART_BAD_VARIABLES == 21 && HART_TOO_LONG == 22 && HART_NO_REQUEST == 23 &&
                    HART_WRONG_ADDRESS == 24 && HART_PENDING == 25 && HART_BAD_MASTER == 26 &&
-                   HART_BAD_CODE == 27 && HART_BAD_CHARACTER == 28,
+                   HART_BAD_CODE == 27 && HART_BAD_CHARACTER == 28 && HART_BAD_STYLE == 29,
                "the numbers of faults");
 _Static_assert(HART_IDLE == 0 && HART_DUE == 1 && HART_AWAITING == 2 && HART_ANSWERED == 3 && HART_EVENT_NONE == 0 &&
                    HART_EVENT_ANSWERED == 1 && HART_EVENT_RETRY == 2 && HART_EVENT_GIVEN_UP == 3,
@@ -44,6 +44,7 @@ _Static_assert(HART_IDLE == 0 && HART_DUE == 1 && HART_AWAITING == 2 && HART_ANS
 _Static_assert(HART_NO_REASON == 0 && HART_NO_FRAME == 1 && HART_SEVERAL_FRAMES == 2 && HART_OTHER_FRAME == 3 &&
                    HART_COMMUNICATION_FAULTS == 4 && HART_UNFIT_DATA == 5,
                "the numbers of reasons");
+_Static_assert(HART_WORDS == 0 && HART_JSON == 1, "the numbers of styles");
 _Static_assert(HART_BYTES == 0 && HART_NUMBER == 1 && HART_PACKED_TEXT == 2 && HART_DATE == 3 && HART_FLOAT == 4 &&
                    HART_VARIABLES == 5 && HART_LATIN_TEXT == 6 && HART_UNIT_CODE == 7,
                "the numbers of kinds");
@@ -53,7 +54,7 @@ _Static_assert(sizeof(hart_frame) == 288 && sizeof(hart_field) == 3 && sizeof(ha
 
 /* Each fault that a call may return. */
 static const uint8_t fault_numbers[] = {0,  1,  2,  3,  4,  5,  6,  10, 11, 12, 13, 14,
-                                        15, 16, 17, 18, 19, 20, 21, 22, 23, 24, 25, 26, 27, 28};
+                                        15, 16, 17, 18, 19, 20, 21, 22, 23, 24, 25, 26, 27, 28, 29};
 
 /* A number, and its four bytes by IEEE 754. */
 struct float_row {
@@ -101,22 +102,70 @@ static const struct data_row data_rows[] = {
      {{2, 6, HART_PACKED_TEXT}, {8, 12, HART_PACKED_TEXT}, {20, 3, HART_DATE}}},
 };
 
-/* A name that is asked for with some room, what is told, and what an output that was there before then holds. */
+/* What has a name. */
+enum named { COMMAND, FIELD_OF_REQUEST, FIELD_OF_REPLY, UNIT, CODE, STATUS_BIT, COMM_FAULT };
+
+/* A name that is asked for with some room, what is told, and what an output that was there before then holds. The number is that of a
+ * field, a unit, a code or a bit. */
 struct name_row {
-    bool is_of_field;
-    bool is_reply;
+    enum named what;
     uint8_t command;
-    size_t index;
+    uint8_t number;
     size_t room;
     hart_outcome told;
     const char *held;
 };
 
 static const struct name_row name_rows[] = {
-    {true, true, 1, 1, 16, {16, HART_OK}, "primary variable"},
-    {true, false, 1, 0, 16, {0, HART_UNKNOWN}, "primary variable"},
-    {false, false, 12, 0, 12, {12, HART_OK}, "read messageable"},
-    {false, false, 12, 0, 11, {0, HART_NO_ROOM}, "read messageable"},
+    {FIELD_OF_REPLY, 1, 1, 16, {16, HART_OK}, "primary variable"},
+    {FIELD_OF_REQUEST, 1, 0, 16, {0, HART_UNKNOWN}, "primary variable"},
+    {COMMAND, 12, 0, 12, {12, HART_OK}, "read messageable"},
+    {COMMAND, 12, 0, 11, {0, HART_NO_ROOM}, "read messageable"},
+    {UNIT, 0, 32, 15, {15, HART_OK}, "degrees Celsiuse"},
+    {UNIT, 0, 32, 14, {0, HART_NO_ROOM}, "degrees Celsiuse"},
+    {UNIT, 0, 170, 16, {0, HART_UNKNOWN}, "degrees Celsiuse"},
+    {CODE, 18, 9, 16, {12, HART_OK}, "invalid dateiuse"},
+    {CODE, 38, 9, 16, {16, HART_OK}, "counter mismatch"},
+    {CODE, 19, 9, 16, {0, HART_UNKNOWN}, "counter mismatch"},
+    {CODE, 0, 64, 16, {0, HART_NO_ROOM}, "counter mismatch"},
+    {STATUS_BIT, 0, 0x20, 16, {10, HART_OK}, "cold startsmatch"},
+    {STATUS_BIT, 0, 0x60, 16, {0, HART_UNKNOWN}, "cold startsmatch"},
+    {STATUS_BIT, 0, 0x40, 16, {0, HART_NO_ROOM}, "cold startsmatch"},
+    {COMM_FAULT, 0, 0x20, 16, {7, HART_OK}, "overrunartsmatch"},
+    {COMM_FAULT, 0, 0x04, 16, {0, HART_UNKNOWN}, "overrunartsmatch"},
+    {COMM_FAULT, 0, 0x08, 16, {0, HART_NO_ROOM}, "overrunartsmatch"},
+};
+
+/* A message that is heard, how it is to be explained, and the lines of this explanation. */
+struct explained_row {
+    uint8_t style;
+    const char *heard;
+    const char *text;
+};
+
+static const struct explained_row explained_rows[] = {
+    {HART_WORDS, "FF FF 02 80 00 00 82",
+     "2-7: request of the primary master to the device at polling address 0, Command 0, read unique identifier\n"},
+    {HART_WORDS, "FF FF E2 80 00 00 00 00 AA BB CC 0B 01 FF 4A",
+     "2-15: request of the primary master to all devices, Command 11, read unique identifier associated with tag\n"
+     "    expansion bytes: 0xAABBCC\n"
+     "    data: 0xFF\n"
+     "    too few data: 1 of 6\n"},
+    {HART_WORDS, "FF FF 86 B7 42 0A 1B 2C 13 05 00 60 01 23 45 5F",
+     "2-16: reply of device 37420A1B2C to the primary master, Command 19, write final assembly number\n"
+     "    response code: 0, success\n"
+     "    device status: configuration changed, cold start\n"
+     "    final assembly number: 0x012345\n"},
+    {HART_JSON, "FF FF " WRITE,
+     "{\"type\":\"message\",\"start\":2,\"stop\":14,\"kind\":\"request\",\"master\":\"primary\",\"address\":\"37420A1B2C\","
+     "\"burst\":false,\"expansion\":\"\",\"command\":19,\"command_name\":\"write final assembly number\",\"data\":\"012345\","
+     "\"fields\":{\"final_assembly_number\":\"012345\"},\"ignored\":\"\",\"problem\":null,\"sending\":1}\n"},
+    {HART_JSON, "FF FF 86 B7 42 0A 1B 2C 13 02 A8 05 F2",
+     "{\"type\":\"message\",\"start\":2,\"stop\":13,\"kind\":\"reply\",\"master\":\"primary\",\"address\":\"37420A1B2C\","
+     "\"burst\":false,\"expansion\":\"\",\"command\":19,\"command_name\":\"write final assembly number\",\"status\":\"A805\","
+     "\"response_code\":null,\"response\":null,\"device_status\":null,"
+     "\"communication_faults\":[\"overrun\",\"longitudinal parity\"],"
+     "\"data\":\"\",\"fields\":{},\"ignored\":\"\",\"problem\":null,\"answers\":null}\n"},
 };
 
 /* What a device hears at once, after it was without power if so, and what it replies. */

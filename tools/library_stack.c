@@ -9,7 +9,7 @@
 #include <ucontext.h>
 
 enum {
-    AREA = 65536, /* the size of the painted stack */
+    AREA = 131072, /* the size of the painted stack */
     PAINT = 0xA5,
     LONGEST = 1024 /* the most characters in a delivery */
 };
@@ -26,6 +26,7 @@ static hart_frame frames[4], request, reply;
 static hart_master master;
 static hart_field fields[16];
 static uint8_t output[287];
+static uint8_t text[HART_EXPLAINED_LEN];
 
 static void find_in_bytes(void)
 {
@@ -95,6 +96,12 @@ static void field_name(void)
     hart_field_name(true, 3, 2, output, sizeof output);
 }
 
+static void explain(void)
+{
+    hart_explain(HART_WORDS, &request, text, sizeof text);
+    hart_explain(HART_JSON, &reply, text, sizeof text);
+}
+
 /* A call, the most bytes of stack that it may take, and the most that it took so far. */
 static struct measure {
     const char *name;
@@ -108,6 +115,7 @@ static struct measure {
     {"hart_new_device", new_device, 4096, 0},       {"hart_read_reply", read_reply, 4096, 0},
     {"hart_read_request", read_request, 4096, 0},   {"hart_field_name", field_name, 4096, 0},
     {"a master", exchange, 6144, 0},                {"hart_hear_own, hart_answer", hear_own, 10240, 0},
+    {"hart_explain", explain, 36864, 0},
 };
 
 /* The stack on which a call runs. */

@@ -35,16 +35,16 @@ LISTENER = pathlib.Path(__file__).with_name("hart-listen")
 CHARACTER = 11 / 1200
 SILENCE = 0.050
 LATE = 0.2
-# How long is waited for what has to come at any time, and how often the programs wake before they say something.
+# How long to wait for output that may come at any time, and how often the programs wake up before they write something.
 PATIENCE = 10.0
 WAKINGS = 3
 REQUEST = bytes.fromhex("FFFFFFFFFF82B7420A1B2C1303012345 3D")
 CUT = REQUEST[:-3]
 # The time of day of each line.
 TIME = r"\d\d:[0-5]\d:[0-5]\d\.\d\d"
-# What is heard, and how long an explanation may take after the last character.
+# What is heard, and how late after the last character an explanation may come.
 HEARD = ((REQUEST, LATE), (CUT, SILENCE + LATE), (REQUEST, LATE))
-# The words of each call, and what the first line then says each time.
+# The words of each call, and how the first line for each part of `HEARD` begins.
 CALLS = (
     (["explain"], (
         TIME + r" 5-17: request of the primary master",
@@ -52,7 +52,7 @@ CALLS = (
         TIME + r" 36-48: request of the primary master")),
     (["explain", "--json"], (
         r'{"type":"message","time":"' + TIME + r'","start":5,"stop":17,.*,"sending":1}\n',
-        r'{"type":"miss","time":"' + TIME + r'","place":22,"reason":"missing","count":3,',
+        r'{"type":"miss","time":"' + TIME + r'","start":22,"place":22,"reason":"missing","count":3,',
         r'{"type":"message","time":"' + TIME + r'","start":36,"stop":48,.*,"sending":2}\n')),
 )
 # What a port with marks delivers, in the pieces in which it comes, and the items of each piece.
@@ -244,7 +244,7 @@ def main():
     parser = argparse.ArgumentParser()
     parser.add_argument("program")
     program = parser.parse_args().program
-    # A script that runs beside others ignores Control-C, and what it starts would, too.
+    # A script that runs in parallel with others ignores Control-C, and so would the programs that it starts.
     signal.signal(signal.SIGINT, signal.default_int_handler)
     for check in (try_readings, try_rts, try_starts, try_stall, try_silence, try_words):
         patiently("listen", check)

@@ -1,7 +1,7 @@
 #!/bin/sh
-# Holds the man page and the bash completion against the help of the program. Both have to name each subcommand and each option that
-# `hart --help` and `hart SUBCOMMAND --help` name, and no other. The man page names each option with its commands. Options go by their
-# long names. The man page of hart-listen has to name the options of its help.
+# Compares the man page and the bash completion with the help of the program. Both must name each subcommand and each option that
+# `hart --help` and `hart SUBCOMMAND --help` name, and no other. The man page must name each option with its commands. Options are
+# compared by their long names. The man page of hart-listen must name the options of its help.
 #
 # Usage: tools/manual.sh [PROGRAM]; PROGRAM is the ./hart of the repository if absent.
 set -eu
@@ -24,7 +24,7 @@ options_of() {
     "$program" "$@" --help 2>&1 | awk '/^ +(-[A-Za-z], +)?--[a-z]/ { match($0, /--[a-z]+/); print substr($0, RSTART, RLENGTH) }'
 }
 
-# The names at the heads of the paragraphs of a section of the man page; and NAME=COMMAND for each command in a paragraph.
+# Each name that heads a paragraph in a section of the man page, and NAME=COMMAND for each command that the paragraph names.
 named_in() {
     sed 's/\\-/-/g' docs/hart.1 | awk -v section="$1" '
         /^\.SH / { on = $2 == section; next }

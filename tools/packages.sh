@@ -1,11 +1,11 @@
 #!/bin/sh
-# Makes the packages of `make deb` and the tarballs of `make dist`, and tries them. Each is put below an empty folder. From there README's
-# first example has to write what README shows, each script has to show its help, and examples/c/messages.c, built with the header and the
-# library of the package, has to find what `hart dump` finds. lintian may name no error and no warning, but that the licence is missing.
-# The version of CHANGELOG.md has to stand at each place that has one.
+# Makes the packages of `make deb` and the tarballs of `make dist`, and tries them. Each is installed below an empty folder. From there
+# README's first example must write what README shows, each script must show its help, and examples/c/messages.c, built with the header
+# and the library of the package, must find what `hart dump` finds. lintian may report no error or warning except the missing licence.
+# Each place that states a version must state that of CHANGELOG.md.
 #
 # Usage: tools/packages.sh [PROGRAM [LIBRARY [LIBRARY_FOR_ARM64]]]; PROGRAM is the ./hart of the repository if absent. A LIBRARY is a folder
-# with libhart.a and libhart.so.0. If absent, both libraries are built, that for arm64 where its compiler is installed. Without dpkg,
+# with libhart.a and libhart.so.0. If absent, both libraries are built, the one for arm64 only if its compiler is installed. Without dpkg,
 # lintian or pkg-config a line says so.
 set -eu
 program=$(realpath "${1:-$(dirname "$0")/../hart}")
@@ -43,7 +43,7 @@ if [ -z "$library" ]; then
 fi
 [ -n "$for_arm" ] || echo "no library for arm64: it was not packed"
 
-# README's first example builds the program first; here it is built. The lines that it shows stand up to the end of the block.
+# README's first example builds the program first; here it is already built. The rest of the block is the output of the example.
 example=$(sed -n 's/^\$ make && //p' README.md | head -n 1)
 shown=$(awk '/^\$ make && / { on = 1; next } on && /^```/ { exit } on' README.md)
 [ -n "$example" ] && [ -n "$shown" ] || fail "README has no first example"
@@ -82,7 +82,7 @@ try_library() {
     done
 }
 
-# Tries a library for arm64 where a program for it can be built and run. Arguments: those of try_library but the last two.
+# Tries a library for arm64 if a program for it can be built and run. Arguments: those of try_library except the last two.
 try_arm() {
     if has "$arm-gcc" && has qemu-aarch64; then
         try_library "$@" "$arm-gcc" "qemu-aarch64 -L /usr/$arm -E LD_LIBRARY_PATH=$2"
@@ -91,7 +91,7 @@ try_arm() {
     fi
 }
 
-# Installs packages below an empty folder. Only root can install them as dpkg does. What they depend on is not there.
+# Installs packages below an empty folder. Only root can install them as dpkg does. Their dependencies are not installed.
 install_below() {
     root=$1
     shift

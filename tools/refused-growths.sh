@@ -1,15 +1,15 @@
 #!/bin/sh
 # Runs each call of the built program again and again, and refuses one allocation (growth) each time: the first, the second, and so
-# on. Such a run ends with `out of memory`, after a prefix of whole lines: with status 2 if the growth was for the words (most of
-# these are clap's), and with 1 if it was the call's own. A call's own growths are its reservations. A script has one more for each
-# word of characters, and those by which its events and its text grow; `hart dump`, `hart explain`, `hart encode` and `hart request`
-# have none. Only before clap has the words may a run succeed without a growth. In the last run no growth is left to refuse, and the
-# call has to succeed.
+# on. Such a run writes a prefix of whole lines and ends with `out of memory`: with status 2 if the growth was for the words of the
+# command line (most are clap's), and with 1 if it was the call's own. A call's own growths are its reservations. A script has one more
+# for each word of characters, and those by which its events and its text grow; `hart dump`, `hart explain`, `hart encode` and
+# `hart request` have none. A run may succeed without a growth only if the growth comes before clap has the words. In the last run no
+# growth is left to refuse, and the call has to succeed.
 #
 # The program does not call `run`, and reports a refusal by `read_script` as its own. So a test of hart_tests_cli makes each call once
-# by its name and prints what it answered. Each growth of that test is refused in the same way.
+# by its function, and prints its result. Each growth of that test is refused in the same way.
 #
-# No allocator that refuses can be passed to a call, so tools/refuse_growth.c refuses an allocation from outside. `rt try --fail-alloc`
+# A refusing allocator cannot be passed to a call, so tools/refuse_growth.c refuses an allocation from outside. `rt try --fail-alloc`
 # would build anew for each allocation, half a minute every time.
 #
 # Usage: tools/refused-growths.sh [PROGRAM [TESTS]]; PROGRAM is the ./hart of the repository if absent, and TESTS the tests that `rt test`
@@ -43,8 +43,8 @@ lacks_words() {
     [ "$1" -eq 2 ] && is_prefix && grep -q 'out of memory$' "$work/errors"
 }
 
-# Refuses each growth of one call in turn. Its input and what it must write, to standard error too, stand in $work. The first word
-# is the number of the call's own growths.
+# Refuses each growth of one call in turn. Its input, and the output and errors that it must write, are files in $work. The first
+# argument is the number of the call's own growths.
 refuse_each() {
     wanted_own=$1
     shift
@@ -85,7 +85,7 @@ refuse_each() {
 
 # Refuses each growth of a script of $1 submissions, each with a turn without characters. One growth is for the input, and one is
 # that of `run_logged` for outcomes. The others let the events and the text grow to their size, and each at least doubles the room.
-# The second word is the number of all these growths.
+# The second argument is the number of all these growths.
 refuse_script() {
     lines=0
     while [ "$lines" -lt "$1" ]; do
@@ -148,7 +148,7 @@ cat >"$work/wanted" <<'TEXT'
 TEXT
 refuse_each 0 explain --raw --json
 
-# So many messages that they are read in 52 portions, and their lines written in more.
+# These messages are read in 52 portions, and their lines are written in more.
 messages=40000
 awk -v messages="$messages" 'BEGIN { while (messages--) print "FF FF 02 80 00 00 82" }' >"$work/input"
 awk -v messages="$messages" 'BEGIN {
@@ -191,7 +191,7 @@ refuse_script 3000 29
 "$program" sim <"$work/input" >"$work/wanted"
 refuse_each 2 sim
 
-# If a line of the text is refused memory, the script ends before a later leg with undetected damage. Its own growths are one each
+# If memory for a line of the text is refused, the script ends before a later leg with undetected damage. Its own growths are one each
 # for the input, the three events, a word of characters and an outcome, and two for the text.
 printf 'submit P 37420A1B2C 19 012345\nturn P ok ok\nnoise FFFF0280000082\n' >"$work/input"
 : >"$work/wanted"
@@ -204,15 +204,15 @@ echo 'FF FF FF FF FF 82 B7 42 0A 1B 2C 13 03 01 23 45 3D' >"$work/wanted"
 refuse_each 0 encode P 37420A1B2C 19 012345
 refuse_each 0 request P 37420A1B2C 19 final_assembly_number=0x012345
 
-# Runs the test that makes each call by its name, and refuses the growth with this number. Then the test does not end as with ample
-# memory, but only what it prints of the calls counts. The result is whether there was such a growth.
+# Runs the test that makes each call by its function, and refuses the growth with this number. A refused growth makes the test fail, but
+# only what it prints of the calls counts. Succeeds if there was such a growth.
 refuse_by_name() {
     REFUSED_GROWTH=$1 LD_PRELOAD=$work/refuse_growth.so "$tests" cli::growths::each_call_succeeds_with_ample_memory \
         2>"$work/errors" 3>"$work/hit" | grep -E ' [0-9]+$' >"$work/output" || true
     [ -s "$work/hit" ]
 }
 
-# With ample memory each call answers 0. Each call that writes has written this number of bytes.
+# With ample memory each call returns 0. The second number of a line is how many bytes the call has written.
 cat >"$work/wanted" <<'ANSWERS'
 read_script 0
 run 0

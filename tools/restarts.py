@@ -21,7 +21,7 @@ OF_RESTART_AND_CHANGE = "00 60"
 OF_CHANGE = "00 40"
 # A write, and the command that reads what it wrote.
 READ_BACK = ((6, 7), (17, 12), (18, 13), (19, 16), (22, 20))
-# The data that each command is asked with by default: those of its worked example, and for Command 6 with a mode.
+# The data with which each command is sent by default: those of its worked example, and for Command 6 also a mode.
 ASKED = DATA | {6: b"\x05\x01"}
 
 

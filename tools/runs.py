@@ -23,10 +23,10 @@ from rows.calls import CALLS, DONE, FAULT, IDENTIFY, NO_CALL, REFUSALS, WITHOUT_
 
 INPUT_LIMIT = 1_048_576
 
-# How many bytes a read returns at most. The numbers from 4 to 8 cut the second item of `FF FF!40` after each of its bytes.
+# The most bytes that a read returns. The numbers 4 to 8 each end the first read of `FF FF!40` after a different byte of its second item.
 PORTIONS = (1, 2, 3, 4, 5, 6, 7, 8, 100)
 
-# Sizes of inputs, of which the last is the largest that is taken.
+# Sizes of inputs. The last is the largest that is accepted.
 SIZES = (255, 256, 1000, 1001, 4095, 4096, 4097, 65_536, INPUT_LIMIT)
 
 # A character with fault bits and a message, which follow an input that may go on.
@@ -337,7 +337,7 @@ def worked_messages_are_as_shown(runner):
 
 def worked_calls_write_before_they_read_on(runner):
     for call in (call for call in worked.CALLS if call.goes_on):
-        # The first read gives just the worked input. What comes later has a line of its own.
+        # The first read returns just the worked input. The text after it leads to one more line.
         size = len(call.text)
         text = call.text + LATER + " " * size
         first, second = (runner.run(call.words, text, most_read=size, failed_output=write) for write in (0, 1))

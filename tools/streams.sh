@@ -1,5 +1,5 @@
 #!/bin/sh
-# Runs the built program on what no contract speaks of. It has to report streams and words of the system that fail: a full device,
+# Tests what no contract covers, on the built program. It must report bad streams and words that the system gives it: a full device,
 # an unreadable input, a word that is not UTF-8. For example, if standard output were buffered, `hart dump >/dev/full` would wrongly
 # report success, and no proof or test would notice. On a pipe that stays open `hart dump` has to write each line before it
 # reads on, and to end at bad hex. All words have to reach the call, even a seventh one and an empty one, and the texts of clap have
@@ -13,8 +13,8 @@ work=$(mktemp -d)
 trap 'rm -rf "$work"' EXIT
 request=crates/hart/stdin
 
-# Runs hart with the words that follow the output: it has to end with this status, with a text of this pattern alone on
-# standard error, and with nothing in the output.
+# Arguments: status, pattern, output file, words. Runs hart with these words. It must end with this status, write just a text of this
+# pattern to standard error, and write nothing to the output.
 ends_with() {
     wanted=$1
     text=$2
@@ -39,8 +39,8 @@ ends_with() {
     echo "hart $words: ended with $status, and gave '$(head -n 1 "$work/errors")'"
 }
 
-# Runs hart with the words that follow the text: it has to write just this text, end with 0, and say nothing else. It reads what is
-# in the file that `heard` names.
+# Runs hart with the words after the first argument, on the file that `heard` names. It must write just the text of the first argument,
+# write no errors, and end with 0.
 heard=/dev/null
 writes() {
     text=$1
@@ -56,8 +56,8 @@ writes() {
     echo "hart $*: wrote '$text'"
 }
 
-# Runs hart with these words: it has to show the whole text that stands below them in tools/texts.txt on standard error alone, and to
-# end with 2.
+# Runs hart with these words. It must write the whole text below them in tools/texts.txt to standard error, write nothing else, and end
+# with 2.
 shows() {
     wanted=$work/text
     awk -v line="\$ hart $*" '/^\$ / { on = $0 == line; next } on' tools/texts.txt >"$wanted"
@@ -79,7 +79,7 @@ begins() {
     exec 3>"$work/heard" 4<"$work/lines"
 }
 
-# Gives a text to the hart that runs: it has to write this line, or these lines, though it could read on.
+# Gives a text to the running hart. It must write these lines, although its input stays open.
 says_at_once() {
     printf '%s' "$1" >&3
     has_said "$1" "$2"
@@ -93,7 +93,7 @@ says_byte_by_byte() {
     has_said "$1" "$2"
 }
 
-# The hart that runs has to have written this line, or these lines, at a text.
+# Fails unless the running hart writes these lines for a text.
 has_said() {
     lines=$(timeout 60 head -n "$(printf '%s\n' "$2" | wc -l)" <&4) || true
     if [ "$lines" != "$2" ]; then
@@ -103,7 +103,7 @@ has_said() {
     echo "hart $word: wrote '$lines' on an open pipe"
 }
 
-# The hart that runs has to end at this place of bad hex, though it could read on.
+# Fails unless the running hart ends at this place of bad hex, although its input stays open.
 ends_at_bad_hex() {
     printf 'FG' >&3
     status=0
@@ -133,7 +133,7 @@ printf 'FF02000000' >&3
 says_at_once '02 ' '8: no message: only one intact preamble byte stands directly before it
     seems: request of the secondary master to the device at polling address 0, Command 0, read unique identifier'
 printf 'FF82B7420A1B2C13FFFFFF02800000' >&3
-says_at_once '82 ' "24-29: $identify"
+says_at_once '82 ' "24-29: $identify, sending 2"
 printf 'FFFF82B7420A1B2C13' >&3
 says_at_once '00!40 ' '31: no message: the character at 38 has the fault bits 0x40
     seems: request of the primary master to device 37420A1B2C, Command 19, write final assembly number'
@@ -147,9 +147,9 @@ seems_write="{$of_primary,\"address\":\"37420A1B2C\",\"command\":19,\"command_na
 says_byte_by_byte 'FF FF 02 80 00 00 82 ' "{\"type\":\"message\",\"start\":2,\"stop\":7,$of_primary,$identified,\"sending\":1}"
 says_byte_by_byte '@12:00:01 FF FF 02 80 00 00 82/' \
     "{\"type\":\"message\",\"time\":\"12:00:01\",\"start\":9,\"stop\":14,$of_primary,$identified,\"sending\":2}"
-says_byte_by_byte 'FFFF02/' '{"type":"miss","time":"12:00:01","place":16,"reason":"ends_before_byte_count","seems":null}'
+says_byte_by_byte 'FFFF02/' '{"type":"miss","time":"12:00:01","start":16,"place":16,"reason":"ends_before_byte_count","seems":null}'
 printf 'FFFF82B7420A1B2C13FFFFFFFFFFFF0280000082' >&3
-says_byte_by_byte '00!40 ' '{"type":"miss","time":"12:00:01","place":19,"reason":"faulty","at":37,"faults":"40","seems":'"$seems_write}
+says_byte_by_byte '00!40 ' '{"type":"miss","time":"12:00:01","start":19,"place":19,"reason":"faulty","at":37,"faults":"40","seems":'"$seems_write}
 {\"type\":\"message\",\"time\":\"12:00:01\",\"start\":32,\"stop\":37,$of_primary,$identified,\"sending\":3}"
 ends_at_bad_hex 105
 
@@ -255,7 +255,7 @@ shows help help
 shows --version
 shows frob
 shows encode P @0
-# A file is no word of a call: the error for such a word names how a file goes in.
+# A file name is no word of a call. The error says how to pass a file.
 shows dump heard.txt
 
 # An input may have as many bytes as the limit, and not one more.
@@ -276,7 +276,7 @@ writes '' explain --json
 # `hart explain` needs no more memory for a longer input: with 12 MB of address space it explains 16.8 MB of messages and misses.
 awk 'BEGIN { while (count++ < 400000) print "FF FF 02 80 00 00 82 FF FF 02 80 00 00 83" }' >"$work/long"
 
-# Explains them, with the words that follow the text: the last lines have to be this text.
+# Explains these messages, with the words after the first argument. The last lines must be the text of the first argument.
 ends_long() {
     text=$1
     shift
@@ -293,15 +293,15 @@ ends_long() {
     echo "hart $*: explained a long input in little memory"
 }
 
-ends_long "5599988-5599993: $identify
+ends_long "5599988-5599993: $identify, sending 400000
 5599995: no message: the check byte is 0x83 at 5599999, and 0x82 would fit
     seems: $identify" explain
 seems_identify="{$of_primary,\"address\":\"@0\",\"command\":0,\"command_name\":\"read unique identifier\"}"
 ends_long "{\"type\":\"message\",\"start\":5599988,\"stop\":5599993,$of_primary,$identified,\"sending\":400000}
-{\"type\":\"miss\",\"place\":5599995,\"reason\":\"bad_check\",\"at\":5599999,\"byte\":\"83\",\"fits\":\"82\",\"seems\":$seems_identify}" \
+{\"type\":\"miss\",\"start\":5599995,\"place\":5599995,\"reason\":\"bad_check\",\"at\":5599999,\"byte\":\"83\",\"fits\":\"82\",\"seems\":$seems_identify}" \
     explain --json
 
-# Any number of preamble bytes is no frame, and the frame after them is found.
+# Preamble bytes alone are no frame, however many there are, and a frame after them is found.
 head -c 100000 /dev/zero | tr '\0' '\377' | od -An -v -tx1 >"$work/preamble"
 heard=$work/preamble
 writes '' dump

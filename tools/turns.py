@@ -10,7 +10,7 @@ from fuzz.frames import BROADCAST, Polling, Unique, with_check_byte
 from hart_bench.vectors import RESTART
 from restarts import MASTERS, SILENCE, Part, Run
 
-# The data of a write by which each register gets another value than that of a new device, and than that of `WRITTEN`.
+# Data that write each register: values other than those of a new device, and values other than those of `WRITTEN`.
 TO_PUMP = {6: b"\x05\x00", 17: PUMP_TAG * 4, 18: PUMP_TAG * 3 + bytes.fromhex("1D0264"), 19: bytes.fromhex("012345"), 22: PUMP_LONG_TAG}
 TO_OTHER = {6: b"\x3E\x01", 17: bytes(range(1, 25)), 18: bytes(range(65, 83)) + bytes.fromhex("0A0B0C"), 19: bytes.fromhex("FEDCBA"),
             22: bytes(range(0xE0, 0x100))}
@@ -176,7 +176,7 @@ def elsewhere():
             yield Story(device).hear(f"{asked} {asked}").run()
             yield Story(device).hear(request(command, b"\0\0" + data, master=master, kind="ACK")).run()
             yield Story(device).hear(request(command, data, master=master, expansion=b"\x55")).run()
-            # The delimiter announces an expansion byte, and none is there.
+            # The delimiter announces an expansion byte, but there is none.
             lacking = bytes.fromhex(asked)[PREAMBLES:-1]
             lacking = bytes([lacking[0] | 0x20]) + lacking[1:]
             yield Story(device).hear(texts.hex_text(b"\xFF" * PREAMBLES + with_check_byte(lacking))).run()

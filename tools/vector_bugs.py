@@ -27,8 +27,8 @@ TOOLS = pathlib.Path(__file__).parent
 VECTORS = TOOLS.parent / "docs" / "vectors.tsv"
 BENCH, PLANTED = TOOLS / "hart-bench", TOOLS / "planted.py"
 LEAST_BUGS = 60
-# The processor time that all random searches may take, so that a busy machine fails none, and the most deliveries of one of them. They
-# took 59 to 65 s while others shared the cores.
+# The most processor time of all random searches, which a busy machine does not change, and the most deliveries of one search. The
+# searches took 59 to 65 s while other programs shared the cores.
 MOST_SECONDS = 90
 MOST_DELIVERIES = 20000
 

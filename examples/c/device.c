@@ -1,6 +1,6 @@
-/* Plays the bench device on a pseudo-terminal. It prints the name of the other end, which any program opens as a serial port, and replies
- * to what comes in there. It ends when the other end is closed after something was heard, or after so many seconds, and prints what the
- * device holds then, its image, in hex. SIGUSR1 takes its power away for a moment.
+/* Plays the bench device on a pseudo-terminal. It prints the name of the other end, which any program can open as a serial port, and
+ * replies to what comes in there. It ends when the other end is closed after something was heard, or after SECONDS, and then prints the
+ * image of the device in hex. SIGUSR1 restarts the device.
  *
  * Usage: device [SECONDS], 60 if absent */
 #define _XOPEN_SOURCE 700
@@ -22,7 +22,7 @@ static void lose_power(int number)
     was_without_power = 1;
 }
 
-/* The device hears this at once, and replies. */
+/* Lets the device hear these characters at once, and sends its reply. */
 static void answer(int line, const hart_char *heard, size_t heard_len)
 {
     static uint8_t reply[LONGEST];

@@ -1,13 +1,12 @@
-/* Reads at most 64 KiB, as they were heard on a HART line, from standard input, and prints each message in words: its command, and the
- * fields of its data with their names. */
+/* Reads at most 64 KiB, as they were heard on a HART line, from standard input, and prints each message in words: its command, its
+ * status, and the fields of its data with their names. */
 #include "hart.h"
 
 #include <stdio.h>
-#include <string.h>
 
 enum { MOST = 1 << 16, FIELDS = 16, NAME = 64 };
 
-/* A name that was written, or a word if there is none. */
+/* Prints a name that was written, or "unknown" if there is none. */
 static void print_name(hart_outcome written, const uint8_t *name)
 {
     if (written.fault == HART_OK)
@@ -18,26 +17,44 @@ static void print_name(hart_outcome written, const uint8_t *name)
 
 static void print_value(const hart_field *field, const uint8_t *bytes)
 {
-    if (field->kind == HART_FLOAT) {
-        uint32_t bits = (uint32_t)bytes[0] << 24 | (uint32_t)bytes[1] << 16 | (uint32_t)bytes[2] << 8 | bytes[3];
-        float value;
-        memcpy(&value, &bits, sizeof value);
-        printf(" %g", (double)value);
+    uint8_t name[NAME];
+    printf(" ");
+    if (field->kind == HART_FLOAT)
+        printf("%g", (double)hart_float(bytes));
+    else if (field->kind == HART_UNIT_CODE)
+        print_name(hart_unit_name(bytes[0], name, NAME), name);
+    else
+        for (size_t i = 0; i < field->len; i++)
+            printf(i > 0 ? " %02X" : "%02X", bytes[i]);
+}
+
+/* Prints what follows the name of the command: what the status bytes of a reply say, or why a request is refused. */
+static void print_status(const hart_frame *frame, hart_reading read)
+{
+    uint8_t name[NAME];
+    if (read.fault != HART_OK) {
+        printf(", no reply\n");
         return;
     }
-    for (size_t i = 0; i < field->len; i++)
-        printf(" %02X", bytes[i]);
+    printf(", ");
+    print_name(hart_code_name(frame->command, read.code, name, NAME), name);
+    for (unsigned bit = 0x80; bit > 0; bit /= 2)
+        if (read.status & bit) {
+            printf(", ");
+            print_name(hart_status_name((uint8_t)bit, name, NAME), name);
+        }
+    printf("\n");
 }
 
 static void print_message(const hart_frame *frame)
 {
-    hart_field fields[FIELDS] = {{0}};
-    uint8_t name[NAME] = {0};
+    hart_field fields[FIELDS];
+    uint8_t name[NAME];
     hart_reading read = frame->is_reply ? hart_read_reply(frame->command, frame->payload, frame->payload_len, fields, FIELDS)
                                         : hart_read_request(frame->command, frame->payload, frame->payload_len, fields, FIELDS);
     printf("%s, Command %u, ", frame->is_reply ? "reply" : "request", frame->command);
     print_name(hart_command_name(frame->command, name, NAME), name);
-    printf(read.fault == HART_OK ? ", code %u\n" : ", no reply\n", read.code);
+    print_status(frame, read);
     for (size_t i = 0; i < read.count && i < FIELDS; i++) {
         printf("    ");
         print_name(hart_field_name(frame->is_reply, frame->command, i, name, NAME), name);

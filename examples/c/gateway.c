@@ -28,7 +28,7 @@ enum {
     BUSY = 32 /* a response code */
 };
 
-/* A port, the bytes from it that are not used up, and the master at it. */
+/* A port, the bytes from it that may still be needed, and the master at it. */
 struct line {
     int port;
     uint8_t heard[ROOM];
@@ -45,7 +45,7 @@ static void check(bool holds, const char *otherwise)
     }
 }
 
-/* Opens a port at 1200 baud, 8 data bits, odd parity and 1 stop bit. A byte with a bad parity is read as 0; the check byte tells. */
+/* Opens a port at 1200 baud, 8 data bits, odd parity and 1 stop bit. A byte with bad parity is read as 0; the check byte shows that. */
 static int open_port(const char *name)
 {
     struct termios raw;
@@ -58,7 +58,7 @@ static int open_port(const char *name)
     return port;
 }
 
-/* Waits for bytes as long as a gap, and returns how many came. */
+/* Waits for bytes for the length of a gap, and returns how many came. */
 static size_t hear(struct line *line)
 {
     struct pollfd look = {.fd = line->port, .events = POLLIN};
@@ -95,7 +95,8 @@ static hart_event receive(struct line *line, const hart_frame *frame)
     return !is_good && hart_matches(&line->master.request, frame).is_reply ? hart_again(&line->master) : event;
 }
 
-/* Hears until something becomes of the request in hand. Time passes for the master only in silences, so a long reply is not missed. */
+/* Listens until the request in hand is answered, due again or given up. For the master, time passes only in silences, so a long reply is
+ * not missed. */
 static hart_event await(struct line *line, hart_frame *frame)
 {
     hart_event event = {0};

@@ -1,4 +1,4 @@
-/* The line of the devices in this folder: a pseudo-terminal, whose other end any program opens as a serial port. */
+/* The line of the devices in this folder: a pseudo-terminal, whose other end any program can open as a serial port. */
 #ifndef LINE_H
 #define LINE_H
 
@@ -24,7 +24,7 @@ static void fail(const char *what)
     exit(1);
 }
 
-/* The seconds of a clock that is never set. */
+/* Returns the seconds of a clock that is never set. */
 static double now(void)
 {
     struct timespec time;
@@ -51,7 +51,7 @@ static int open_line(void)
     return line;
 }
 
-/* Hears up to a gap, and returns how many characters came, at most MOST_HEARD and one more, so that what is too long is known to be.
+/* Listens up to a gap, and returns how many characters came, at most MOST_HEARD + 1, so that a delivery that is too long is noticed.
  * Returns 0 at the time `end`, or once the other end is closed after something was heard. */
 static size_t hear_delivery(int line, double end, hart_char *heard)
 {
@@ -79,7 +79,7 @@ static size_t hear_delivery(int line, double end, hart_char *heard)
     return 0;
 }
 
-/* Sends a message. Of one that nobody reads the rest is dropped. */
+/* Sends a message. If nobody reads it, the rest of it is dropped. */
 static void say(int line, const uint8_t *message, size_t len)
 {
     for (size_t sent = 0; sent < len;) {

@@ -30,7 +30,7 @@ static void print_address(const hart_frame *frame)
         printf("%04X%06" PRIX32, (unsigned)frame->expanded_type, frame->device_id);
 }
 
-/* Prints a frame that was found after so many bytes were used up. */
+/* Prints a frame that was found after this many bytes were dropped. */
 static void print_frame(const hart_frame *frame, uint64_t before)
 {
     printf("%" PRIu64 " %" PRIu64 " %s %s %d ", before + frame->start, before + frame->stop, frame->is_reply ? "ACK" : "STX",

@@ -2,7 +2,7 @@
  *
  *   - Command 34 writes the damping of the loop current output, a float of 0 to 60 seconds in 4 bytes, and replies with it. Command 15,
  *     which the library knows, then reads it. The write counts as a configuration change.
- *   - Command 128 reads in 2 bytes how many replies this device has given.
+ *   - Command 128 reads the number of replies that this device has given, in 2 bytes.
  *
  * The library finds such a request, and makes its reply with the device status. What the command does is the business of this program.
  *
@@ -42,7 +42,7 @@ static uint8_t write_damping(const hart_frame *asked)
     return SUCCESS;
 }
 
-/* Carries out a request of an own command, and writes its reply. */
+/* Carries out a request of one of these commands, and writes its reply. */
 static hart_outcome carry_out(const hart_frame *asked, uint8_t *reply)
 {
     uint8_t data[MOST_DATA] = {(uint8_t)(replies >> 8), (uint8_t)replies};
@@ -55,7 +55,7 @@ static hart_outcome carry_out(const hart_frame *asked, uint8_t *reply)
                        LONGEST);
 }
 
-/* The device hears this at once, and replies. */
+/* Lets the device hear these characters at once, and sends its reply. */
 static void answer(int line, const hart_char *heard, size_t heard_len)
 {
     static uint8_t reply[LONGEST];

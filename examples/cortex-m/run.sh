@@ -34,7 +34,7 @@ is_bitcode() {
 proving=$!
 while kill -0 "$proving" 2>/dev/null; do
     for found in $(find "$work/try" -type f 2>/dev/null); do
-        # A link keeps what is still being written, too.
+        # A hard link also keeps a file that is still being written.
         ! is_bitcode "$found" || ln -f "$found" "$work/module" 2>/dev/null || true
     done
     sleep 0.1

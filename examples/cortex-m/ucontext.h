@@ -25,7 +25,7 @@ static inline void makecontext(ucontext_t *context, void (*call)(void), int coun
     context->call = call;
 }
 
-/* Makes the call on the stack of `there`, and comes back to the stack of now. */
+/* Makes the call on the stack of `there`, and returns to the current stack. */
 static inline void swapcontext(ucontext_t *here, const ucontext_t *there)
 {
     uintptr_t top = ((uintptr_t)there->uc_stack.ss_sp + there->uc_stack.ss_size) & ~(uintptr_t)7;

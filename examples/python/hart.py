@@ -79,7 +79,7 @@ class BenchDevice:
     """The bench device, as it is new or as an image says. Its identity, process and registers are filled and read by the library alone."""
 
     LONGEST = 287
-    # More than each of the three structs has, and aligned for each.
+    # Larger than each of the three structs, and aligned for each.
     ROOM = ctypes.c_uint64 * 64
 
     def __init__(self, library="libhart.so", image=None):

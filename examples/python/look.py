@@ -9,7 +9,7 @@ import sys
 for one in map(json.loads, sys.stdin):
     time = one.get("time", "-")
     if one["type"] == "miss":
-        print(time, one["reason"], "at place", one["place"])
+        print(time, one["reason"], "at place", one["start"])
     elif one["kind"] == "request" and one["sending"] > 1:
         print(time, "sending", one["sending"], "of command", one["command"])
     elif "primary_variable" in one["fields"]:

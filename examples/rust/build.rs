@@ -1,4 +1,4 @@
-//! Links libhart.a of the folder that HART_LIB_DIR names.
+//! Links libhart.a from the folder that HART_LIB_DIR names.
 use std::env;
 
 fn main() {

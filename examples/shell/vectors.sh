@@ -1,5 +1,5 @@
-# Runs the rows of vectors.tsv, from standard input, on `hart serve`, and counts the rows with another reply. For a device of your own, put
-# a command that answers line by line in place of `hart serve`.
+# Runs the rows of vectors.tsv, from standard input, on `hart serve`, and counts the rows whose reply differs. For a device of your own,
+# put a command that answers line by line in place of `hart serve`.
 #
 # Usage: sh vectors.sh < vectors.tsv; HART is the program, ./hart if it is not set.
 run=0 other=0

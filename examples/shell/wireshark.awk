@@ -1,5 +1,5 @@
-# Turns messages into the hex dump that text2pcap reads: HART-IP, each message behind a header of eight bytes. A line has a message from its
-# delimiter to its check byte as its last word. Its first letter is P, S (STX) for a request, D or A (ACK) for a reply.
+# Turns messages into the hex dump that text2pcap reads: HART-IP, each message after a header of eight bytes. The last word of a line is a
+# message from its delimiter to its check byte. The first letter of the line is P or S (STX) for a request, and D or A (ACK) for a reply.
 /^[PSDA]/ {
     body = $NF
     gsub(/../, " &", body)

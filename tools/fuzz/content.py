@@ -13,7 +13,7 @@ STATUS_NAMES = {
     0x80: "device malfunction", 0x40: "configuration changed", 0x20: "cold start", 0x10: "more status available",
     0x08: "loop current fixed", 0x04: "loop current saturated", 0x02: "non-primary variable out of limits",
     0x01: "primary variable out of limits"}
-# A row of the response codes in docs/COMMANDS.md: code and meaning. A meaning with a command holds for that command alone.
+# A row of the response codes in docs/COMMANDS.md: code and meaning. A meaning that names a command holds only for that command.
 CODE_ROW = re.compile(r"^\| (\d+) \| `[0-9A-F]{2}` \| ([^|]+) \|", re.MULTILINE)
 OF_COMMAND = re.compile(r"(.+), of Command (\d+)")
 # How many bytes of data Command 38 needs, if it has any.

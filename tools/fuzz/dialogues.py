@@ -27,8 +27,9 @@ def nearly(rng, frame):
 
 
 def reply(rng, frame):
-    """A reply to a request."""
-    return Frame("ACK", frame.master, int(rng.random() < 0.1), frame.address, b"", frame.command, reply_payload(rng, frame.command))
+    """A reply to a request, often one after which the request is sent again."""
+    payload = weighted(rng, (2, reply_payload(rng, frame.command)), (1, b"\x20\0"), (1, b"\x88\0"))
+    return Frame("ACK", frame.master, int(rng.random() < 0.1), frame.address, b"", frame.command, payload)
 
 
 def broken(rng, frame):

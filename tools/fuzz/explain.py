@@ -2,6 +2,7 @@
 
 import pathlib
 
+from .before import Masters
 from .commands import COMMANDS
 from .content import FAULT_NAMES, STATUS_NAMES, bit_names, code_name, content_of, data_of, has_communication_faults
 from .fields import VALUES, bytes_text
@@ -103,9 +104,15 @@ def said(frame):
     yield from said_of_data(frame)
 
 
-def message_lines(found):
+def sending_text(sending):
+    """What is said of a request that is sent again."""
+    return f", sending {sending}" if sending is not None and sending > 1 else ""
+
+
+def message_lines(found, masters):
     """The lines of a message."""
-    yield f"{found.start}-{found.stop}: {header_text(found.frame)}"
+    sending, _ = masters.hear(found)
+    yield f"{found.start}-{found.stop}: {header_text(found.frame)}{sending_text(sending)}"
     yield from (f"    {name}: {value}" for name, value in said(found.frame))
 
 
@@ -118,9 +125,9 @@ def miss_lines(miss):
 
 def explained(heard):
     """What is said of characters, silences and dates. A date stands before the first line of what is said of a place."""
-    text = ""
+    text, masters = "", Masters()
     for seen, date in sightings(heard):
-        lines = miss_lines(seen) if isinstance(seen, Miss) else message_lines(seen)
+        lines = miss_lines(seen) if isinstance(seen, Miss) else message_lines(seen, masters)
         text += (f"{date} " if date else "") + "".join(f"{line}\n" for line in lines)
     return text.encode()
 

@@ -1,12 +1,12 @@
 """What `hart explain --json` writes: a JSON object for each message and each miss, a line each."""
 
 import json
-from typing import NamedTuple
 
+from .before import Masters
 from .commands import COMMANDS, is_date
 from .content import FAULT_NAMES, STATUS_NAMES, bit_names, code_name, content_of, data_of, has_communication_faults
 from .fields import NOT_SET, day_text, printable_text, variables_of
-from .frames import Found, Frame
+from .frames import Found
 from .misses import Miss
 from .sightings import sightings
 from .texts import address_text
@@ -97,46 +97,20 @@ def data_members(frame):
     }
 
 
-class Last(NamedTuple):
-    """The last message of a master or to it: its place, its frame, and which sending in a row it is, 0 for a reply."""
-
-    start: int
-    frame: Frame
-    sending: int
-
-
-class Masters:
-    """The last message of each master. Misses and silences change nothing."""
-
-    def __init__(self):
-        self.last = {}
-
-    def members(self, found):
-        """What the messages before a message say of it. The message is then the last one of its master."""
-        frame, last = found.frame, self.last.get(found.frame.master)
-        if frame.kind == "STX":
-            sending = last.sending + 1 if last and last.frame == frame else 1
-            self.last[frame.master] = Last(found.start, frame, sending)
-            return {"sending": sending}
-        asked = last and last.frame.kind == "STX" and (last.frame.address, last.frame.command) == (frame.address, frame.command)
-        self.last[frame.master] = Last(found.start, frame, 0)
-        return {"answers": last.start if asked else None}
-
-
 def message_object(found, time, masters):
     """The object of a message."""
-    frame = found.frame
+    frame, (sending, answers) = found.frame, masters.hear(found)
     return {
         "type": "message", **time, "start": found.start, "stop": found.stop, **header_members(frame), "burst": bool(frame.burst),
         "expansion": hex_digits(frame.expansion), **command_members(frame), **(status_members(frame) if frame.kind == "ACK" else {}),
-        **data_members(frame), **masters.members(found)}
+        **data_members(frame), **({"sending": sending} if frame.kind == "STX" else {"answers": answers})}
 
 
 def miss_object(miss, time):
     """The object of a miss."""
     details = {name: f"{value:02X}" if name in BYTES else value for name, value in miss.reason.details.items()}
     seems = None if miss.header is None else {**header_members(miss.header), **command_members(miss.header)}
-    return {"type": "miss", **time, "place": miss.place, "reason": miss.reason.name, **details, "seems": seems}
+    return {"type": "miss", **time, "start": miss.place, "place": miss.place, "reason": miss.reason.name, **details, "seems": seems}
 
 
 def object_of(sighting, masters):

@@ -83,8 +83,8 @@ def said_text(shown):
 # What `hart explain` hears and says, as docs/explained.txt shows it; what is heard may be wrapped.
 HEARD = re.compile(r"^heard    (.+(?:\n {9}.+)*)\n" + SAID, re.MULTILINE)
 
-# What a new bench device hears and replies, as docs/COMMANDS.md shows it: what happened before, if anything did, the request, the reply,
-# and what is said of both, one after the other.
+# The blocks of docs/COMMANDS.md that show what a new bench device hears and replies. The parts of a block, in this order: what happened
+# before (optional), the request, the reply or `silence`, and what is said of request and reply (optional).
 SHOWN = re.compile(r"^```\n(?:after    (.+)\n)?request  ([0-9A-F\s]+)^(?:reply    ([0-9A-F\s]+)|silence\n)(?:" + SAID + ")?^```$",
                    re.MULTILINE)
 ON_PAGE = [shown for after, *shown in SHOWN.findall(PAGE.read_text(encoding="utf-8")) if not after]
@@ -271,7 +271,7 @@ NOT_PLAYED = (
     ("restart now", "bad line 1"),
 )
 
-# The image of the device of `hart serve`, or "" for a new one, an input, and what is said to its lines.
+# Rows for `hart serve`: the image of its device ("" for a new device), its input, and what it answers to the lines of the input.
 SERVED = (
     ("", "", ""),
     ("", "\n\r\n", "-\n-\n"),

@@ -14,10 +14,10 @@ import time
 
 from .vectors import RESTART, SILENCE
 
-# How long a silence ends a delivery. A character takes 9 ms at 1200 baud.
+# The length of the silence that ends a delivery, in seconds. A character takes 9 ms at 1200 baud.
 GAP = 0.050
 PATIENCE = 10.0
-# Lines that are sent together, before their answers are read, may fill no pipe.
+# Lines are sent together, before their answers are read, only up to about this many bytes, so that they never fill a pipe.
 MOST_TOGETHER = 4096
 OK = "ok"
 

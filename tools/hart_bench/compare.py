@@ -6,7 +6,7 @@ from .requests import COMMUNICATION_FAULTS, OWN_ADDRESS, PREAMBLE, moved, text_o
 from .vectors import SILENCE
 
 IDENTITY_COMMANDS = (0, 11, 21)
-# The replies whose data are process values, or say what the device is.
+# The commands whose replies hold process values or say what the device is.
 VALUE_COMMANDS = (1, 2, 3, 8, 9, 14, 15, 48)
 IDENTITY_BYTES = 22
 PREAMBLES_OF_REPLY = 12

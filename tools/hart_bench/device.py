@@ -14,7 +14,7 @@ from .words import difference_text, summary, write_junit
 
 DELIVERIES = 20000
 PORT_DELIVERIES = 500
-# How long a reply from a port is waited for: longer than any device may wait before it replies.
+# How long to wait for a reply from a port, in seconds: longer than any device may wait before it replies.
 PATIENCE = 0.5
 
 

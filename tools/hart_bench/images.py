@@ -10,7 +10,7 @@ BLANK_LONG_TAG = b" " * 32
 LONG_TAGS = (BLANK_LONG_TAG, b"PUMP-101".ljust(32), b"Feed pump, building 3".ljust(32), bytes(range(0xE0, 0x100)), bytes(range(32)))
 DAYS = ("000000", "1D0264", "1C02C8", "1F0CFF", "010100", "1E0464", "0A0B0C")
 NO_DAYS = ("1D0200", "1D02C8", "1F0400", "200101", "1F0D64", "010064", "000164", "000001", "1E0265")
-# Counters shortly before they wrap in one way or another.
+# Counters just before both bytes wrap, before the lower byte wraps, and before the highest bit changes.
 COUNTERS = (0xFFFF, 0xFFFF, 0xFF, 0x7FFF)
 PROTECTED = 4
 NEW_IMAGE = bytes.fromhex("020001" + "820820" * 14 + "000000" + "000000" + "20" * 32 + "0000" + "00")

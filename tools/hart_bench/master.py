@@ -19,7 +19,7 @@ from .vectors import NEW, SILENCE
 from .watch import Watch
 
 RETRIES = 3
-# How many milliseconds a master waits for a reply at least: 33 characters at 1200 baud.
+# The least number of milliseconds that a master waits for a reply: 33 characters at 1200 baud.
 LIMIT = 305
 DELAY_MS = 200
 BUSY_PAYLOAD = b"\x20\x00"
@@ -42,8 +42,7 @@ def add_words(parser):
     parser.add_argument("--retries", metavar="N", type=int, default=RETRIES, help="how often the master may send again; 3 if absent")
     parser.add_argument("--limit", metavar="MS", type=float, default=LIMIT, help="how long it has to wait for a reply; 305 if absent")
     parser.add_argument("--gap", metavar="MS", type=float, default=GAP * 1000, help="so long a silence ends a message; 50 if absent")
-    parser.add_argument("--seconds", metavar="N", type=float, help="end after so many seconds; at Control-C or when the port is closed"
-                        " if absent")
+    parser.add_argument("--seconds", metavar="N", type=float, help="end after so many seconds, if not ended by Control-C or by the port before")
     parser.add_argument("--hart", metavar="PROGRAM", help="the program hart; the one beside this program if absent")
 
 

@@ -8,7 +8,7 @@ from .vectors import RESTART
 
 PROTECT_ON, PROTECT_OFF = "protect on", "protect off"
 READS = (0, 1, 2, 3, 7, 8, 9, 9, 9, 12, 13, 14, 15, 16, 20, 48)
-# What shows a device's state.
+# The commands that show a device's state.
 STATES = (0, 7, 7, 12, 13, 15, 16, 20)
 CODES = (0, 1, 2, 3, 4, 9, 244, 245, 246, 247, 248, 250, 255)
 KNOWN = (*READS, *WRITES, RESET, 11, 21)
@@ -69,7 +69,7 @@ class Maker:
         data = self.good_data(command)
         data = weighted(rng, (12, data), (2, data[:-1]), (1, data + rng.randbytes(rng.choice((1, 2, 9)))), (1, b""))
         self.follow(command, data)
-        # What the write left is looked at, with the same values written again at times.
+        # The result of the write is often read back, and sometimes the same values are written again.
         looks = [self.ask({6: 7, 17: 12, 18: 13, 19: 16, 22: 20}[command], preambles=PREAMBLES), self.ask(0, preambles=PREAMBLES)]
         self.waiting = rng.choice(([], looks[:1], looks, [*looks, self.ask(command, data)]))
         return self.ask(command, data)

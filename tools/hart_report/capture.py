@@ -12,7 +12,7 @@ from .writes import WRITTEN, Writes
 MOST_RECENT = 500
 # The commands of which the page shows values.
 SHOWN = FACTS | WRITTEN.keys()
-# The widths of the first bins: characters, and seconds.
+# The widths of the first bins, in characters and in seconds.
 CHARACTERS, SECONDS = 64, 1.0
 
 
@@ -58,7 +58,7 @@ class Capture:
     def add_miss(self, one):
         """Adds a miss, which is no sending."""
         check(one)
-        place, reason = one["place"], one["reason"]
+        place, reason = one["start"], one["reason"]
         self.axis.move(place, place, one.get("time"))
         self.misses.add(self.axis, reason)
         self.exchanges.hear_miss(reason)
@@ -90,6 +90,8 @@ class Capture:
 
     def give_up(self, pending):
         """Counts a request that was not answered. By now its polling address may be known as a device's."""
+        if pending.is_busy:
+            return
         station = self.stations.station(pending.request["address"])
         station.unanswered += 1
         if pending.write:

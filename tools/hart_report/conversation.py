@@ -69,7 +69,7 @@ def mark(one):
 def time_of(one):
     """Returns the time of day of a line, or its place."""
     if "time" not in one:
-        return f'{one["place" if one["type"] == "miss" else "start"]:,}'
+        return f'{one["start"]:,}'
     return one["time"].rpartition("T")[2][-12:]
 
 

@@ -5,7 +5,7 @@ from .stations import MASTERS
 from .trends import number_of
 from .words import date_text, number_text, unit_name
 
-# What stands below its name, since it may be long.
+# The facts that stand below their names, since they may be long.
 LONG = ("Long tag", "Descriptor", "Range")
 CODES = ("manufacturer", "device_revision", "software_revision")
 

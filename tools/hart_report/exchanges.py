@@ -2,7 +2,9 @@
 from collections import Counter
 
 NO_REPLY, DAMAGED, FAULTS = "no reply was heard", "a damaged message was heard", "the reply reported communication faults"
-SAME = ("address", "burst", "expansion", "command", "data")
+BUSY = "the device was busy"
+# The response code of a device that is busy.
+BUSY_CODE = 32
 
 
 class Command:
@@ -22,14 +24,34 @@ class Command:
 
 
 class Pending:
-    """The last request of a master, until a reply with a response code answers it."""
+    """The last request of a master, until a reply with a response code other than busy answers it."""
 
-    __slots__ = ("request", "command", "station", "sendings", "miss", "has_faults", "write")
+    __slots__ = ("request", "command", "station", "sendings", "miss", "has_faults", "is_busy", "write")
 
     def __init__(self, request, command, station):
         self.request, self.command, self.station = request, command, station
         self.sendings = request["sending"]
-        self.miss, self.has_faults, self.write = None, False, None
+        self.miss, self.has_faults, self.is_busy, self.write = None, False, False, None
+
+    @property
+    def cause(self):
+        """Why the request is sent again."""
+        return BUSY if self.is_busy else FAULTS if self.has_faults else DAMAGED if self.miss else NO_REPLY
+
+    def repeat(self):
+        """Counts one more sending. An answer by which the device was busy does not count any more."""
+        if self.is_busy:
+            self.command.answered -= 1
+            self.command.at_first -= self.sendings == 1
+        self.sendings += 1
+        self.command.sendings += 1
+        self.miss, self.has_faults, self.is_busy = None, False, False
+
+    def answer(self, code):
+        """Counts an answer with a response code."""
+        self.command.answered += 1
+        self.command.at_first += self.sendings == 1
+        self.is_busy = code == BUSY_CODE
 
 
 class Exchanges:
@@ -55,24 +77,15 @@ class Exchanges:
         """Counts a request. Returns it as pending, and whether it is a repeat."""
         self.messages[one["master"]][0] += 1
         pending = self.pending[one["master"]]
-        if pending is not None and self.is_repeat(pending, one):
-            self.causes[FAULTS if pending.has_faults else DAMAGED if pending.miss else NO_REPLY] += 1
-            pending.sendings += 1
-            pending.command.sendings += 1
-            pending.miss, pending.has_faults = None, False
+        if pending is not None and one["sending"] > 1:
+            self.causes[pending.cause] += 1
+            pending.repeat()
             return pending, True
         command = self.command(one)
         command.requests += 1
         command.sendings += 1
         self.pending[one["master"]] = pending = Pending(one, command, station)
         return pending, False
-
-    @staticmethod
-    def is_repeat(pending, one):
-        """Whether a request repeats the pending one. After a reply with communication faults `sending` begins with 1 again."""
-        if one["sending"] > 1:
-            return True
-        return pending.has_faults and all(pending.request[name] == one[name] for name in SAME)
 
     def hear_reply(self, one):
         """Counts a reply. Returns the pending request that it answers, or None."""
@@ -93,9 +106,8 @@ class Exchanges:
             command.codes[code] += 1
             command.unread += one["problem"] is not None and one["problem"]["reason"] == "no_reply"
             if pending:
-                command.answered += 1
-                command.at_first += pending.sendings == 1
-                self.pending[one["master"]] = None
+                pending.answer(code)
+                self.pending[one["master"]] = pending if pending.is_busy else None
         command.strays += one["answers"] is None
         return pending
 

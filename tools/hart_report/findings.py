@@ -1,7 +1,7 @@
 """What stands out in a capture: a sentence in plain words for each thing."""
 from typing import NamedTuple
 
-from .exchanges import DAMAGED, FAULTS, NO_REPLY
+from .exchanges import BUSY, DAMAGED, FAULTS, NO_REPLY
 from .html import counted, share
 from .names import address_words, station_name, tag_of
 from .stations import MOST_STATIONS
@@ -10,7 +10,8 @@ from .writes import MOST_WRITES
 
 MUCH = 0.05
 MOST_NAMED = 8
-CAUSES = {NO_REPLY: "no reply was heard", DAMAGED: "a message was damaged", FAULTS: "the device had heard it damaged"}
+CAUSES = {NO_REPLY: "no reply was heard", DAMAGED: "a message was damaged", FAULTS: "the device had heard it damaged",
+          BUSY: "the device was busy"}
 
 
 class Finding(NamedTuple):

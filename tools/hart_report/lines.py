@@ -7,7 +7,7 @@ from .shape import Unlike, check
 
 LONGEST_LINE = 65536
 DECODER = json.JSONDecoder()
-# What a value of another type leads to where it is used.
+# The exceptions that a value of a wrong type raises where it is used.
 OUT_OF_PLACE = (ValueError, KeyError, TypeError, AttributeError, OverflowError, struct.error)
 
 

@@ -6,7 +6,7 @@ from .html import Html, element
 
 SECTIONS = (("summary", "Summary", summary), ("line", "Devices", devices), ("requests", "Requests", requests), ("faults", "Faults", faults),
             ("conversation", "Conversation", conversation), ("writes", "Writes", write_table), ("trends", "Trends", trend_charts))
-# Nothing of a capture may become a script or an address of the network, even if its text were not escaped.
+# No text of a capture may run as a script or load anything from the network, even if it were not escaped.
 POLICY = "default-src 'none'; style-src 'unsafe-inline'"
 
 

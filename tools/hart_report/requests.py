@@ -1,9 +1,9 @@
 """The requests by command: how many, how often sent, what was replied."""
-from .exchanges import DAMAGED, FAULTS, NO_REPLY
+from .exchanges import BUSY, DAMAGED, FAULTS, NO_REPLY
 from .html import bar, bars, element, figure, section, swatch, table
 from .words import code_words
 
-CAUSES = {NO_REPLY: "warn", DAMAGED: "bad", FAULTS: "c5"}
+CAUSES = {NO_REPLY: "warn", DAMAGED: "bad", FAULTS: "c5", BUSY: "c3"}
 HEADS = ("Command", "#Requests", "Sendings", "#Sent", "#Answered at first", "#Unanswered", "Response codes")
 
 

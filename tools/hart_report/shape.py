@@ -20,7 +20,7 @@ REQUEST = {**MESSAGE, "sending": (int,)}
 REPLY = {**MESSAGE, "status": (str,), "response_code": (int, NOTHING), "response": (str, NOTHING), "device_status": (list, NOTHING),
          "communication_faults": (list, NOTHING), "answers": (int, NOTHING)}
 KINDS = {"request": REQUEST, "reply": REPLY}
-MISS = {"place": (int,), "reason": (str,), "seems": (dict, NOTHING)}
+MISS = {"start": (int,), "reason": (str,), "seems": (dict, NOTHING)}
 DETAILS = {"faulty": {"at": (int,), "faults": (str,)}, "bad_delimiter": {"byte": (str,)}, "short_reply": {"byte_count": (int,)},
            "missing": {"count": (int,)}, "bad_check": {"at": (int,), "byte": (str,), "fits": (str,)}}
 PROBLEMS = {"too_few_data": {"needed": (int,)}, "refused": {"code": (int,), "name": (str, NOTHING)}, "not_read": {"code": (int,)},
@@ -116,7 +116,7 @@ def check_miss(one):
     if one["seems"] is not None:
         check_members(one["seems"], HEADER)
         check_header(one["seems"])
-    if not 0 <= one["place"] <= GREATEST_PLACE:
+    if not 0 <= one["start"] <= GREATEST_PLACE:
         raise Unlike("a miss has no place")
 
 

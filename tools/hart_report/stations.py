@@ -5,7 +5,7 @@ from .shape import ADDRESS
 
 MOST_STATIONS = 256
 MASTERS = ("primary", "secondary")
-# What an identity of revision 5 or 6 has in its first twelve bytes.
+# The fewest bytes that an identity of revision 5 or 6 has.
 OLD_IDENTITY_BYTES = 12
 # The commands whose replies say what a device is or has.
 FACTS = {0, 6, 7, 11, 12, 13, 15, 16, 17, 18, 19, 20, 21, 22, 38}

@@ -15,7 +15,7 @@ NUMBERS = (
     "private_label_distributor", "device_profile", "polling_address", "loop_current_mode", "primary_variable_classification",
     "secondary_variable_classification", "tertiary_variable_classification", "quaternary_variable_classification", "alarm_code",
     "transfer_function", "write_protect_code", "reserved_byte")
-# The unit of a float: the name of the field that has its code, or the words themselves.
+# For each float, the name of the field with its unit code. Floats whose unit never changes are in `FIXED_UNITS`.
 UNIT_FIELDS = {"primary_variable": "primary_variable_unit", "secondary_variable": "secondary_variable_unit",
                "tertiary_variable": "tertiary_variable_unit", "quaternary_variable": "quaternary_variable_unit", "upper_limit": "unit",
                "lower_limit": "unit", "minimum_span": "unit", "upper_range_value": "unit", "lower_range_value": "unit"}
@@ -157,11 +157,12 @@ def lines_of(one):
     """Yields the lines of a message or a miss."""
     date = f'{one["time"]} ' if "time" in one else ""
     if one["type"] == "miss":
-        yield f'{date}{one["place"]}: no message: {miss_words(one)}'
+        yield f'{date}{one["start"]}: no message: {miss_words(one)}'
         if one["seems"]:
             yield f'    seems: {header_words(one["seems"])}'
         return
-    yield f'{date}{one["start"]}-{one["stop"]}: {header_words(one)}'
+    again = f', sending {one["sending"]}' if one["kind"] == "request" and one["sending"] > 1 else ""
+    yield f'{date}{one["start"]}-{one["stop"]}: {header_words(one)}{again}'
     if one["burst"]:
         yield "    burst bit: set"
     if one["expansion"]:

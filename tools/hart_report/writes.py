@@ -11,14 +11,14 @@ UNKNOWN = object()
 class Write:
     """One write request, which may have been sent several times."""
 
-    __slots__ = ("date", "place", "one", "station", "old", "sendings", "reply")
+    __slots__ = ("date", "place", "one", "station", "old", "sendings", "reply", "is_refused")
 
     def __init__(self, one, station, axis):
         self.date, self.place = one.get("time"), axis.place
         self.one, self.station = one, station
         self.old = {name: station.facts.get(name, UNKNOWN) for name in WRITTEN[one["command"]]}
         self.sendings = 1
-        self.reply = None
+        self.reply, self.is_refused = None, False
 
 
 class Writes:
@@ -34,6 +34,8 @@ class Writes:
         if is_repeat:
             if pending.write:
                 pending.write.sendings += 1
+                self.refused -= pending.write.is_refused
+                pending.write.is_refused = False
             return
         pending.write = Write(one, pending.station, axis)
         self.kept.append(pending.write)
@@ -45,8 +47,9 @@ class Writes:
         write = pending.write
         write.reply = one
         if one["communication_faults"] is None:
+            write.is_refused = one["response_code"] != 0
             self.done += one["response_code"] == 0
-            self.refused += one["response_code"] != 0
+            self.refused += write.is_refused
 
     @staticmethod
     def forget(command, station):

@@ -7,7 +7,7 @@ from . import count
 from .browser import Broken
 from .reading import figures_of, section_of
 
-# A float in the words of the page has its number after it.
+# In the words of the page, the number of a float follows its bytes.
 NUMBER = re.compile(r"(0x[0-9A-F]{8}) = (?:not a number|(?:minus )?infinite|-?[\d.,e+-]+)( [A-Za-z][A-Za-z0-9 ]*?)?(?=,|;|$)", re.MULTILINE)
 FINDINGS = (
     "Device 37420A1B2C (TT-101) was restarted 3 times.",
@@ -15,7 +15,7 @@ FINDINGS = (
     "Device 3742FFEE01 (<B>&\"') has a fixed loop current, says its last reply.",
     "2 configuration writes were refused.",
     "1 configuration write got no response code, so it is not known whether it was carried out.",
-    "The configuration was to be written 6 times: 4 by the primary master and 2 by the secondary master.",
+    "The configuration was to be written 7 times: 5 by the primary master and 2 by the secondary master.",
     "Nobody answered at polling addresses 3 and 5.",
     "1 reply answers no request that was heard right before.")
 CARDS = (

@@ -5,18 +5,16 @@ import math
 import sqlite3
 import struct
 
-# The messages of each master in their order. `runs` numbers its requests: a repeat has the number of the request that it repeats.
+# The messages of each master in their order. `runs` numbers the master's requests: a repeat has the number of the request that it repeats.
 VIEWS = """
 CREATE TABLE heard (n INTEGER PRIMARY KEY, one TEXT);
 CREATE VIEW said AS SELECT n, one ->> 'kind' kind, one ->> 'master' master, one ->> 'address' address, one ->> 'command' command,
-    one ->> 'sending' sending, one ->> 'answers' answers, one ->> 'response_code' code, one -> 'communication_faults' faults,
-    json_extract(one, '$.address', '$.burst', '$.expansion', '$.command', '$.data') bytes
+    one ->> 'sending' sending, one ->> 'answers' answers, one ->> 'response_code' code, one -> 'communication_faults' faults
     FROM heard WHERE one ->> 'type' = 'message';
 CREATE VIEW after AS SELECT *, lag(n) OVER line last_n, lag(kind) OVER line last_kind, lag(faults) OVER line last_faults,
-    lag(answers) OVER line last_answers, lag(bytes, 2) OVER line asked, lag(n, 2) OVER line asked_n
+    lag(code) OVER line last_code
     FROM said WINDOW line AS (PARTITION BY master ORDER BY n);
-CREATE VIEW marked AS SELECT *, kind = 'request' AND sending = 1 AND NOT (
-    last_kind IS 'reply' AND last_faults IS NOT 'null' AND last_answers IS NOT NULL AND asked IS bytes) begins FROM after;
+CREATE VIEW marked AS SELECT *, kind = 'request' AND sending = 1 begins FROM after;
 CREATE TABLE numbered AS SELECT *, sum(begins) OVER (PARTITION BY master ORDER BY n) run FROM marked;
 CREATE TABLE runs AS SELECT master, run, min(n) FILTER (WHERE kind = 'request') n, command, address,
     count(*) FILTER (WHERE kind = 'request') sendings,
@@ -36,6 +34,7 @@ KEYED = {
     "command-faults-{}": "SELECT command, count(*) FROM said WHERE faults <> 'null' GROUP BY 1",
     "code-{}": "SELECT command || '-' || code, count(*) FROM said WHERE code IS NOT NULL GROUP BY 1"}
 CAUSES = """SELECT CASE WHEN last_kind = 'reply' AND last_faults <> 'null' THEN 'the reply reported communication faults'
+    WHEN last_kind = 'reply' AND last_code = 32 THEN 'the device was busy'
     WHEN EXISTS (SELECT 1 FROM heard WHERE heard.n BETWEEN last_n AND numbered.n AND one ->> 'type' = 'miss') THEN
     'a damaged message was heard' ELSE 'no reply was heard' END, count(*) FROM numbered WHERE kind = 'request' AND NOT begins GROUP BY 1"""
 TRENDS = ((1, "primary variable", "primary_variable", "primary_variable_unit"), (3, "primary variable", "primary_variable",

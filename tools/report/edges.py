@@ -8,7 +8,7 @@ REQUEST = {
 REPLY = {
     **{name: value for name, value in REQUEST.items() if name != "sending"}, "start": 9, "stop": 38, "kind": "reply", "status": "0000",
     "response_code": 0, "response": "success", "device_status": [], "communication_faults": None, "answers": 2}
-MISS = {"type": "miss", "place": 2, "reason": "bad_check", "at": 6, "byte": "83", "fits": "82", "seems": None}
+MISS = {"type": "miss", "start": 2, "place": 2, "reason": "bad_check", "at": 6, "byte": "83", "fits": "82", "seems": None}
 
 
 def lines(*objects):
@@ -35,11 +35,11 @@ class Edge(NamedTuple):
 WHOLE = lines(REQUEST, REPLY)
 # Members that an older line may lack.
 OLDER_LINES = ((REQUEST, ("start", "address", "fields", "problem", "sending")),
-               (REPLY, ("status", "response_code", "communication_faults", "answers")), (MISS, ("place", "reason", "seems", "at")))
+               (REPLY, ("status", "response_code", "communication_faults", "answers")), (MISS, ("start", "reason", "seems", "at")))
 OLDER = "an older hart explain may have written it"
 EDGES = (
     Edge("nothing", "", shown="The capture has no message; nothing was heard."),
-    Edge("noise alone", lines(MISS, {**MISS, "place": 20, "reason": "burst"}), shown="The capture has no message; only noise was heard."),
+    Edge("noise alone", lines(MISS, {**MISS, "start": 20, "reason": "burst"}), shown="The capture has no message; only noise was heard."),
     Edge("cut in the middle of a line", WHOLE + WHOLE[:50], said="line 3: it is cut in the middle", shown="Line 3 is cut in the middle"),
     Edge("cut in the first line", WHOLE[:50], said="line 1: it is cut in the middle", shown="The capture has no message"),
     Edge("without the last line end", WHOLE.rstrip(), shown="data-figure=\"messages\" class=\"large\">2<"),
@@ -60,7 +60,7 @@ EDGES = (
     Edge("a float of three bytes", lines({**REPLY, "fields": {"primary_variable_unit": 32, "primary_variable": "41C800"}}), 1,
          'line 1: the field "primary_variable" is no float'),
     Edge("an address that is none", lines({**REQUEST, "address": "@x"}), 1, 'line 1: the member "address" is no address'),
-    Edge("a place that is none", lines({**MISS, "place": -1}), 1, "line 1: a miss has no place"),
+    Edge("a place that is none", lines({**MISS, "start": -1}), 1, "line 1: a miss has no place"),
     Edge("both kinds of status", lines({**REPLY, "communication_faults": []}), 1, "line 1: a reply has either a response code and"),
     Edge("a tag that is a number", lines({**REPLY, "command": 13, "fields": {"tag": 7}}), 1,
          'line 1: the field "tag" has a value of another type'),

@@ -177,8 +177,11 @@ class Example:
             self.odd_messages()
 
     def odd_messages(self):
-        """Messages that are right, but seldom: an unknown command, a broadcast, expansion bytes, a reply that nobody asked for."""
+        """Messages that are right, but seldom: an unknown command, a broadcast, expansion bytes, a reply that nobody asked for, a busy
+        device."""
         level = self.devices[3]
+        self.write(PRIMARY, level, 19, bytes.fromhex("000008"), code=32)
+        self.write(PRIMARY, level, 19, bytes.fromhex("000008"))
         self.ask(PRIMARY, level.address, 33, b"\1\2")
         self.reply(PRIMARY, level.address, 33, bytes([64, 0]))
         self.ask(PRIMARY, bytes(5), 21, latin("<script>alert(1)</script>"))

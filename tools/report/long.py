@@ -21,7 +21,7 @@ used = resource.getrusage(resource.RUSAGE_CHILDREN)
 print(time.monotonic() - start, used.ru_utime + used.ru_stime, used.ru_maxrss)
 """
 PLAIN_READER = "import json, sys\nfor line in sys.stdin.buffer:\n    json.loads(line)\n"
-# Words that are no texts of a capture, but names that the lines are read by.
+# Members whose values are not texts of a capture, but names by which the lines are read.
 NAMES = ("type", "kind", "master", "address", "reason", "data", "expansion", "status", "ignored")
 HEX = re.compile(r"(?:[0-9A-F]{2})+|\d{4}-\d\d-\d\d")
 
@@ -106,7 +106,7 @@ def try_devices(tool):
 
 def try_misses(tool):
     """The bars of 100,000 places and of 10 hours add up."""
-    misses = [{"type": "miss", "time": f"{number // 400 % 24:02}:{number * 9 // 60 % 60:02}:{number * 9 % 60:02}", "place": 26 * number,
+    misses = [{"type": "miss", "time": f"{number // 400 % 24:02}:{number * 9 // 60 % 60:02}:{number * 9 % 60:02}", "start": 26 * number,
                "reason": "faulty" if number % 3 else "bad_check", "at": 1, "faults": "40", "byte": "00", "fits": "01", "seems": None}
               for number in range(4000)]
     for objects in (misses, [{name: value for name, value in one.items() if name != "time"} for one in misses]):

@@ -1,11 +1,13 @@
 """Faults that are planted into a copy of hart-report. The test has to find each of them."""
 
-# The file, what stands there, and what stands there instead.
+# The file, a piece of its code, and the wrong code in its place.
 PLANTS = (
     ("html.py", 'return html.escape(CONTROLS.sub("\\ufffd", str(part)))', "return str(part)"),
     ("html.py", 'CONTROLS.sub("\\ufffd", str(part))', "str(part)"),
     ("exchanges.py", "pending.sendings == 1", "pending.sendings <= 2"),
-    ("exchanges.py", "return pending.has_faults and all", "return False and all"),
+    ("exchanges.py", "self.command.answered -= 1", "pass"),
+    ("exchanges.py", "pending if pending.is_busy else None", "None"),
+    ("words.py", ', sending {one["sending"]}', "again"),
     ("exchanges.py", "pending.miss = reason", "pass"),
     ("stations.py", "max(self.cold_starts.values(), default=0)", "sum(self.cold_starts.values())"),
     ("stations.py", "& 0x3FFF", "& 0xFFFF"),
@@ -27,7 +29,7 @@ PLANTS = (
     ("shape.py", 'if name not in one:', "if False:"),
     ("axis.py", "self.days += DAY", "pass"),
 )
-# Faults that only the memory shows.
+# Faults that only the memory use shows.
 MEMORY = (("capture.py", "deque(maxlen=MOST_RECENT)", "deque()"),)
 # Faults that only the browser, or only tidy, can see.
 SEEN = (

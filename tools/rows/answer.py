@@ -8,7 +8,7 @@ REPLY_TO_SECONDARY = (
 )
 FAULTS_TO_SECONDARY = "FF FF FF FF FF 86 37 42 0A 1B 2C 13 02 88 00 57\n"
 
-# A delivery, the reply to it, which is nothing if the device keeps silent, and the line of its fault.
+# A delivery, the reply to it, which is empty if the device is silent, and the line of its fault.
 ROWS = (
     ("FF FF FF FF FF 02 80 00 00 82", REPLY_TO_PRIMARY, ""),
     ("FF FF 02 00 00 00 02", REPLY_TO_SECONDARY, ""),
@@ -79,8 +79,8 @@ ROWS = (
     ("F F", "", "bad hex at 0\n"),
 )
 
-# What a request to the device's own unique address has after that address, and what its reply has there: at least a row for each
-# command, in the order of their numbers.
+# The bytes after the address in a request to the device's own unique address, and those after the address in its reply. Each command
+# has at least one row, in the order of the numbers.
 OWN_ROWS = (
     ("00 00 4A", "00 18 00 00 FE 37 42 05 07 01 02 18 00 0A 1B 2C 05 04 00 00 00 00 37 00 37 01 F9"),
     ("01 00 4B", "01 07 00 00 20 41 C8 00 00 E1"),
@@ -136,6 +136,6 @@ OWN_ROWS = (
     ("30 00 7A", "30 1B 00 00 00 00 00 00 00 00 00 00 00 00 00 00 00 00 00 00 00 00 00 00 00 00 00 00 00 65"),
 )
 
-# What stands before these in a request, and in a reply.
+# The bytes before those of `OWN_ROWS`, in a request and in a reply.
 REQUEST = "FF FF FF FF FF 82 B7 42 0A 1B 2C "
 REPLY = "FF FF FF FF FF 86 B7 42 0A 1B 2C "

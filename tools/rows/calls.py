@@ -7,7 +7,7 @@ DONE, FAULT, NO_CALL = 0, 1, 2
 # A request for the identity, as it is heard.
 IDENTIFY = "FF FF 02 80 00 00 82"
 
-# The words of each call, an input, and what it writes if it reads that.
+# The words of each call, an input, and what the call writes for it.
 CALLS = (
     (["answer"], IDENTIFY, answer.REPLY_TO_PRIMARY),
     (["dump"], dump.TWO_MESSAGES, dump.TWO_LINES),

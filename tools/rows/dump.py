@@ -2,7 +2,7 @@
 
 from rows import FailedWrite, Read
 
-# A message that begins and goes on far beyond the whole one within it.
+# The beginning of a message with the byte count 255, and a whole message in its payload.
 FALSE_START = "FF FF 82 B7 42 0A 1B 2C 13 FF FF FF FF FF FF 02 80 00 00 82"
 FIRST_LINE = "2 7 STX P 0 @0 - 0 -\n"
 
@@ -38,14 +38,14 @@ ROWS = (
     (FALSE_START + " 00" * 246, "15 20 STX P 0 @0 - 0 -\n", ""),
 )
 
-# What follows its last digits makes a message's last item whole, and here nothing does yet.
+# A message whose last item is not whole yet, because nothing follows its digits.
 OPEN_MESSAGE = "FF FF 02 80 00 00 82"
 ONE_MESSAGE = OPEN_MESSAGE + " "
 MESSAGES = "FF FF 02 80 00 00 82 FF FF 02 00 00 00 02 FF FF 02 80 7D 00 FF "
 LINES = TWO_LINES + "16 21 STX P 0 @0 - 125 -\n"
 
-# A message that begins holds back the whole one within it, until the last but one item turns out to be no check byte of it. The
-# second ends before that item.
+# An earlier start holds back the whole message within its body, until the last but one item turns out not to be its check byte. The
+# second text ends before that item.
 HELD_BACK = "FF FF 02 80 00 08 FF FF 02 80 00 00 82 00 00 00 "
 STILL_HELD_BACK = "FF FF 02 80 00 08 FF FF 02 80 00 00 82 00 "
 HELD_LINE = "8 13 STX P 0 @0 - 0 -\n"
@@ -79,14 +79,14 @@ READS = (
     Read(ONE_MESSAGE, after="failure", fault="read fault\n", reads=22, writes=1, written=FIRST_LINE),
     Read(ONE_MESSAGE, after="failure", most_read=None, fault="read fault\n", reads=2, writes=1, written=FIRST_LINE),
     Read(STILL_HELD_BACK, after="failure", fault="read fault\n", reads=43, writes=1, written=HELD_LINE),
-    # Bad hex is decided at its first byte after which nothing makes an item of it.
+    # Bad hex is decided at the first byte after which it can no longer become an item.
     Read(BAD_HEX, fault="bad hex at 21\n", reads=23, writes=1, written=FIRST_LINE),
     Read(BAD_HEX, most_read=None, fault="bad hex at 21\n", reads=1, writes=1, written=FIRST_LINE),
     Read("FF 82!80 FF", fault="bad hex at 3\n", reads=7, writes=0),
     Read("FF 82!08 FF", fault="bad hex at 3\n", reads=8, writes=0),
 )
 
-# The end of an input that is as long as may be, what comes after it, the line of the fault, and what is written.
+# The end of an input of the greatest length, what comes after it, the line of the fault, and what is written.
 LONGEST_INPUTS = (
     (OPEN_MESSAGE, "end", "", FIRST_LINE),
     (OPEN_MESSAGE, "spaces", "input too long\n", ""),

@@ -8,7 +8,11 @@ from rows import FailedWrite, Read
 
 IDENTIFY_HEADER = "request of the primary master to the device at polling address 0, Command 0, read unique identifier\n"
 IDENTIFY = f"2-7: {IDENTIFY_HEADER}"
+IDENTIFY_AGAIN = IDENTIFY_HEADER.replace("\n", ", sending 2\n")
 SEEMS_IDENTIFY = f"    seems: {IDENTIFY_HEADER}"
+
+UNLISTED = "request of the primary master to the device at polling address 0, Command 125"
+UNLISTED_REPLY = "{}-{}: reply of the device at polling address 0 to the primary master, Command 125"
 
 REPLY_WITH_UNIT = bytes.fromhex("86B7420A1B2C01070000")
 VALUE = bytes.fromhex("41C80000")
@@ -196,7 +200,7 @@ ROWS = (
         "9: no message: it ends before its byte count\n",
         "bad hex at 33\n",
     ),
-    # The line fell silent: what was heard before is explained as ended, and places go on counting.
+    # A silence ends what was heard before it, and places are counted on after it.
     ("/", "", ""),
     ("FF FF 02 80 00 00 82/", IDENTIFY, ""),
     ("FF FF 02 80/00 00 82", "2: no message: it ends before its byte count\n", ""),
@@ -215,7 +219,7 @@ ROWS = (
     ),
     ("FF FF 02 80 00/0/", "2: no message: it ends before its byte count\n" + SEEMS_IDENTIFY, "bad hex at 15\n"),
     ("FF FF 02!/", "", "bad hex at 6\n"),
-    # A date stands before each line that begins a paragraph, if it stands before that line's place.
+    # The first line of each message or miss begins with the last date before that line's place, if there is one.
     ("@a", "", ""),
     ("@12:00:01.25 FF FF 02 80 00 00 82", f"12:00:01.25 {IDENTIFY}", ""),
     ("FF FF@a 02 80 00 00 82", f"a {IDENTIFY}", ""),
@@ -228,22 +232,34 @@ ROWS = (
         "b 14: no message: the check byte is 0x83 at 18, and 0x82 would fit\n" + SEEMS_IDENTIFY,
         "",
     ),
-    # Its word has 1 to 32 printable bytes, and a separator or the end after it.
+    # The word of a date has 1 to 32 printable bytes, and a separator or the end after it.
     (f"@{'~' * 32} FF FF 02 80 00 00 82", f"{'~' * 32} {IDENTIFY}", ""),
     (f"FF @{'!' * 33} FF", "", "bad hex at 3\n"),
     ("FF @ FF", "", "bad hex at 3\n"),
     ("@", "", "bad hex at 0\n"),
-    ("FF FF 02 80 00 00 82 @a/b@c FF FF 02 80 00 00 82", f"{IDENTIFY}a/b@c 9-14: {IDENTIFY_HEADER}", ""),
+    ("FF FF 02 80 00 00 82 @a/b@c FF FF 02 80 00 00 82", f"{IDENTIFY}a/b@c 9-14: {IDENTIFY_AGAIN}", ""),
     ("FF @a\u00e9 FF", "", "bad hex at 3\n"),
     ("@a\x7f FF", "", "bad hex at 0\n"),
     ("FF FF 02 80 00 00 82!08", "2: no message: it lacks 1 character, its check byte\n" + SEEMS_IDENTIFY, "bad hex at 18\n"),
     ("FF FF 0G", "", "bad hex at 6\n"),
     ("02!08", "", "bad hex at 0\n"),
+    # Which sending a request is, if it is not the first one. A master asks again after a busy reply, and the other master asks in between.
+    (
+        "FF FF 02 80 7D 00 FF FF FF 06 80 7D 02 20 00 D9 FF FF 02 00 00 00 02 FF FF 02 80 7D 00 FF FF FF 06 80 7D 02 00 00 F9"
+        " FF FF 02 80 7D 00 FF",
+        f"2-7: {UNLISTED}\n"
+        f"{UNLISTED_REPLY.format(9, 16)}\n    response code: 32, busy\n    device status: none\n"
+        f"18-23: {IDENTIFY_HEADER.replace('primary', 'secondary')}"
+        f"25-30: {UNLISTED}, sending 2\n"
+        f"{UNLISTED_REPLY.format(32, 39)}\n    response code: 0, success\n    device status: none\n"
+        f"41-46: {UNLISTED}\n",
+        "",
+    ),
     EACH_UNIT,
 )
 
-# An input that cannot be read further, what is said of it, and its fault: an item is whole only once a byte follows it, and bad hex
-# before comes first.
+# An input after which a read fails, what is said of it, and its fault. An item is whole only once a byte follows it. Bad hex before the
+# failed read is reported first.
 FAILED_READS = (
     ("", "", "read fault\n"),
     ("FF FF 02 80 00 00 82 ", IDENTIFY, "read fault\n"),
@@ -266,7 +282,7 @@ RAW_ROWS = (
     (b"0G!@/\xFF\xFF\x20", "7: no message: 0x20 is no delimiter of this profile\n", ""),
 )
 
-# An input of raw bytes that cannot be read further, what is said of it, and its fault.
+# An input of raw bytes after which a read fails, what is said of it, and its fault.
 RAW_FAILED_READS = (
     (b"", "", "read fault\n"),
     (b"\xFF\xFF\x02\x80\x00\x00\x82", IDENTIFY, "read fault\n"),
@@ -275,7 +291,7 @@ RAW_FAILED_READS = (
 
 ONE_PREAMBLE = "8: no message: only one intact preamble byte stands directly before it\n" + SEEMS_IDENTIFY
 
-# Two messages, the second with one preamble byte alone. What follows the last digits of an item makes it whole.
+# Two messages, the second with a single preamble byte. An item is whole once a byte follows its digits.
 MESSAGES = "FF FF 02 80 00 00 82 FF 02 80 00 00 82 "
 
 # A message whose first three preamble bytes are data of a body that may come after one preamble byte.
@@ -290,12 +306,12 @@ FAILED_WRITES = (
     FailedWrite(MESSAGES, most_read=None, write=0, reads=1),
     FailedWrite("FF FF 02 80 00!40 ", write=0, reads=18),
     FailedWrite("FF FF 02 80 00 00 83 ", write=0, reads=21),
-    # A silence decides at once what is open.
+    # A silence decides at once whatever was undecided.
     FailedWrite("FF FF 82 B7/FF FF FF ", write=0, reads=12),
     FailedWrite(IN_OPEN_BODY, write=0, reads=48),
 )
 
-# The same of raw bytes.
+# Like `FAILED_WRITES`, for raw bytes.
 RAW_FAILED_WRITES = (
     FailedWrite(bytes.fromhex(MESSAGES), write=0, reads=7),
     FailedWrite(bytes.fromhex(MESSAGES), write=1, reads=13, written=IDENTIFY),
@@ -306,7 +322,7 @@ RAW_FAILED_WRITES = (
 READS = (
     Read(MESSAGES, reads=40, writes=2, written=IDENTIFY + ONE_PREAMBLE),
     Read(MESSAGES, most_read=None, reads=2, writes=1, written=IDENTIFY + ONE_PREAMBLE),
-    # The end decides what is open.
+    # The end of the input decides whatever was undecided.
     Read("FF FF 02 80 00 00 ", reads=19, writes=1, written="2: no message: it lacks 1 character, its check byte\n" + SEEMS_IDENTIFY),
     Read("FF FF 02 80 00 00 82 8G FF FF 02 00 00 00 02 ", fault="bad hex at 21\n", reads=23, writes=1, written=IDENTIFY),
     Read("FF 82!08 FF", fault="bad hex at 3\n", reads=8, writes=0),

@@ -99,7 +99,7 @@ ROWS = (
     ),
 )
 
-# A word that writes no image, and the line of its fault.
+# A word that is no image, and the line of its fault.
 BAD_IMAGES = (
     ("", "bad image: length\n"),
     ("00", "bad image: version\n"),
@@ -110,7 +110,7 @@ BAD_IMAGES = (
     # A byte short, and a byte too many.
     (image(1, flags=""), "bad image: length\n"),
     (image(1, flags="0000"), "bad image: length\n"),
-    # As many bytes as an image of the other version.
+    # The length of an image of the other version.
     (image(1, version="02"), "bad image: length\n"),
     (image(2, version="01"), "bad image: length\n"),
     # A polling address of 64, a mode of 2, 29 February 1900, and flags of 8, in both versions.

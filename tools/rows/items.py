@@ -1,6 +1,6 @@
 """The items of an input: which characters they are, and where bad hex stands."""
 
-# Items as the data of a message, and its line in `hart dump`, which has their bytes.
+# Items as the data of a message, and the message's line in `hart dump`, which has the bytes of the items.
 WHOLE = (
     ("FFFF82B7420A1B2C7D00 37", "2 11 STX P 0 37420A1B2C - 125 -\n", ""),
     ("FFFF82B7420A1B2C7D00 \t\r\n 37", "2 11 STX P 0 37420A1B2C - 125 -\n", ""),
@@ -8,14 +8,14 @@ WHOLE = (
     ("FFFF82B7420A1B2C7D04\tfF Ff\r\n aB0c  94", "2 15 STX P 0 37420A1B2C - 125 FFFFAB0C\n", ""),
 )
 
-# Damaged items as the data of a request, and the reply to it, which has their fault bits together.
+# Damaged items as the data of a request, and the reply to it, which has the fault bits of all of them.
 DAMAGED = (
     ("FFFF82B7420A1B2C7D01FF!40  C9", "FF FF FF FF FF 86 B7 42 0A 1B 2C 7D 02 C0 00 F1\n", ""),
     ("FFFF82B7420A1B2C7D01ff!72 C9", "FF FF FF FF FF 86 B7 42 0A 1B 2C 7D 02 F2 00 C3\n", ""),
     ("FFFF82B7420A1B2C7D0302!4080!0200 B6", "FF FF FF FF FF 86 B7 42 0A 1B 2C 7D 02 C2 00 F3\n", ""),
 )
 
-# A text that ends, the items of it before its bad hex, and the place of that.
+# A text that ends, its items before the bad hex, and the place of the bad hex.
 BAD = (
     ("! ", "", 0),
     ("0 ", "", 0),
@@ -35,7 +35,7 @@ BAD = (
     ("FF\vFF ", "FF", 2),
 )
 
-# A text that a failed read broke off, its items that are whole, and the place of its bad hex, or None if it may go on.
+# A text cut off by a failed read, its whole items, and the place of its bad hex, or None if it has none so far.
 BROKEN_OFF = (
     ("", "", None),
     ("8", "", None),

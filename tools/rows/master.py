@@ -4,7 +4,7 @@ MESSAGE = "FF " * 20 + "02 80 00 00 82"
 REPLY = "FF FF 06 80 00 18 00 40 FE 37 42 05 07 01 02 18 00 0A 1B 2C 05 04 00 01 00 00 37 00 37 01 70"
 PAYLOAD = "0040FE37420507010218000A1B2C05040001000037003701"
 
-# Lines, and what is said to them.
+# Lines, and the answers to them.
 LINES = "tick 1\nsubmit @0 0\nsend\n"
 SAID = f"-\nok\nsend {MESSAGE}\n"
 
@@ -14,7 +14,7 @@ ROWS = (
     ("\n", "bad line: bad word 1\n", ""),
     ("send", "-\n", ""),
     ("submit @0 0\r\nsend\r\n", f"ok\nsend {MESSAGE}\n", ""),
-    # It is sent four times, and given up after as many waits.
+    # A request is sent four times, and given up after the fourth wait.
     (
         "submit @0 0\n" + "send\ntick 33\n" * 5,
         "ok\n" + f"send {MESSAGE}\nretry\n" * 3 + f"send {MESSAGE}\nnoreply 4\n-\n-\n",
@@ -35,7 +35,7 @@ ROWS = (
     ),
 )
 
-# An input before a read that fails, and what is written: whole lines alone are answered.
+# An input before a read that fails, and what is written: only whole lines are answered.
 FAILED_READS = (
     ("", "", "read fault\n"),
     ("send", "", "read fault\n"),

@@ -31,9 +31,33 @@ def written(start, answers):
             f'{NUMBER},"answers":{answers}}}\n')
 
 
+# The members about the status bytes, in the objects of replies without data.
+STATUS = {
+    "0700": '"response_code":7,"response":"in write protect mode","device_status":[],"communication_faults":null',
+    "2000": '"response_code":32,"response":"busy","device_status":[],"communication_faults":null',
+    "8800": '"response_code":null,"response":null,"device_status":null,"communication_faults":["longitudinal parity"]',
+}
+
+
+def left(start, status, answers):
+    """The object of a reply to it that has only these status bytes."""
+    return (f'{{"type":"message","start":{start},"stop":{start + 11},"kind":"reply","master":"primary",{WRITES},"status":"{status}",'
+            f'{STATUS[status]},"data":"","fields":{{}},"ignored":"","problem":null,"answers":{answers}}}\n')
+
+
+def unlisted(start, status, answers):
+    """The object of such a reply that has Command 127."""
+    return left(start, status, answers).replace('"command":19,"command_name":"write final assembly number"', '"command":127,"command_name":null')
+
+
 IDENTIFY = identify(2)
 BY_PRIMARY, BY_SECONDARY = "FF FF 02 80 00 00 82 ", "FF FF 02 00 00 00 02 "
 WRITE = "FF FF 82 B7 42 0A 1B 2C 13 03 01 23 45 3D "
+BUSY, BUSY_ELSEWHERE = "FF FF 86 B7 42 0A 1B 2C 13 02 20 00 7F ", "FF FF 86 B7 42 0A 1B 2D 13 02 20 00 7E "
+FAULTY, REFUSED = "FF FF 86 B7 42 0A 1B 2C 13 02 88 00 D7 ", "FF FF 86 B7 42 0A 1B 2C 13 02 07 00 58 "
+# In the first two replies the device heard Command 127. The third is of another device.
+HEARD_WRONG, BUSY_WRONG = "FF FF 86 B7 42 0A 1B 2C 7F 02 88 00 BB ", "FF FF 86 B7 42 0A 1B 2C 7F 02 20 00 13 "
+FAULTY_ELSEWHERE = "FF FF 86 B7 42 0A 1B 2D 13 02 88 00 D6 "
 WRITTEN = "FF FF 86 B7 42 0A 1B 2C 13 05 00 40 01 23 45 7F "
 # What comes before the data in a reply to Command 12, and in a request of Command 22.
 MESSAGE = '{"type":"message","start":2,"stop":37,"kind":"reply","master":"primary","address":"37420A1B2C","burst":false,"expansion":"",' \
@@ -42,8 +66,8 @@ MESSAGE = '{"type":"message","start":2,"stop":37,"kind":"reply","master":"primar
 LONG_TAG = '{"type":"message","start":2,"stop":43,"kind":"request","master":"primary","address":"37420A1B2C","burst":false,' \
     '"expansion":"","command":22,"command_name":"write long tag",'
 
-# The message with the most to say of it: a date of quotes, expansion bytes, each bit of the device status, an identity, and as many
-# ignored bytes as there can be.
+# The message with the longest object: a date of quotes, expansion bytes, each bit of the device status, an identity, and the most
+# ignored bytes that are possible.
 IGNORED = "22" * 231
 LONGEST = (
     "@" + '"' * 32 + " FF FF E6 F7 42 0A 1B 2C 55 AA 55 15 FF 00 FF FE 37 42 05 07 01 02 18 00 0A 1B 2C 05 04 00 01 00 00 37 00 37 01"
@@ -67,20 +91,35 @@ ROWS = (
     ("FF FF", "", ""),
     LONGEST,
     (BY_PRIMARY, IDENTIFY, ""),
-    # Each sending in a row is counted, for each master by itself. Silences and misses do not count.
+    # Sendings of the same request are counted separately for each master. Silences and misses neither count nor end the count.
     (
         BY_PRIMARY + BY_SECONDARY + BY_PRIMARY + "/" + BY_PRIMARY + BY_SECONDARY + "FF FF 02 80 00 00 83 " + BY_PRIMARY,
         identify(2) + identify(9, 1, "secondary") + identify(16, 2) + identify(23, 3) + identify(30, 2, "secondary")
-        + f'{{"type":"miss","place":37,"reason":"bad_check","at":41,"byte":"83","fits":"82",{SEEMS_IDENTIFY}}}\n' + identify(44, 4),
+        + f'{{"type":"miss","start":37,"place":37,"reason":"bad_check","at":41,"byte":"83","fits":"82",{SEEMS_IDENTIFY}}}\n'
+        + identify(44, 4),
         "",
     ),
-    # A reply answers the last sending; a second one answers nothing, and a request after a reply is sent for the first time.
+    # A reply answers the last sending, and a second reply answers nothing. A request after a reply counts as a first sending.
     (
         WRITE + WRITE + WRITTEN + WRITTEN + WRITE + BY_PRIMARY + WRITTEN,
         write(2, 1) + write(16, 2) + written(30, 16) + written(46, "null") + write(62, 1) + identify(76) + written(83, "null"),
         "",
     ),
-    # The burst bit makes it another request.
+    # A busy reply to a request leaves it open, and so does a communication-fault reply from its address, whatever command the device heard.
+    # A reply of another device, or with another code, does not.
+    (
+        WRITE + BUSY + WRITE + FAULTY + FAULTY + WRITE + BUSY_ELSEWHERE + WRITE + REFUSED + WRITE,
+        write(2, 1) + left(16, "2000", 2) + write(29, 2) + left(43, "8800", 29) + left(56, "8800", "null") + write(69, 3)
+        + left(83, "2000", "null").replace("0A1B2C", "0A1B2D") + write(96, 1) + left(110, "0700", 96) + write(123, 1),
+        "",
+    ),
+    (
+        WRITE + HEARD_WRONG + WRITE + BUSY_WRONG + WRITE + FAULTY_ELSEWHERE + WRITE,
+        write(2, 1) + unlisted(16, "8800", "null") + write(29, 2) + unlisted(43, "2000", "null") + write(56, 1)
+        + left(70, "8800", "null").replace("0A1B2C", "0A1B2D") + write(83, 1),
+        "",
+    ),
+    # A request with the burst bit set is a different request, so its sendings are counted anew.
     (
         BY_PRIMARY + "FF FF 02 C0 00 00 C2 " + BY_PRIMARY,
         identify(2) + identify(9).replace('"burst":false', '"burst":true') + identify(16),
@@ -89,7 +128,7 @@ ROWS = (
     # A date is a string, in which quotes and backslashes are escaped.
     ('@"\\a ' + BY_PRIMARY, identify(2, time='"time":"\\"\\\\a",'), ""),
     ("@a FF FF @b 02 @c 80 00 00 82", identify(2, time='"time":"b",'), ""),
-    ("@a FF FF 82 B7/", '{"type":"miss","time":"a","place":2,"reason":"ends_before_byte_count","seems":null}\n', ""),
+    ("@a FF FF 82 B7/", '{"type":"miss","time":"a","start":2,"place":2,"reason":"ends_before_byte_count","seems":null}\n', ""),
     # Each character of a packed text.
     (
         "FF FF 86 B7 42 0A 1B 2C 0C 1A 00 00 00 10 83 10 51 87 20 92 8B 30 D3 8F 41 14 93 51 55 97 61 96 9B 71 D7 9F 58",
@@ -103,7 +142,7 @@ ROWS = (
         '"ignored":"","problem":null,"answers":null}\n',
         "",
     ),
-    # A Latin-1 text is in UTF-8.
+    # A Latin-1 text is written in UTF-8.
     (
         "FF FF 82 B7 42 0A 1B 2C 16 20 A0 A1 A2 A3 A4 A5 A6 A7 A8 A9 AA AB AC AD AE AF B0 B1 B2 B3 B4 B5 B6 B7 B8 B9 BA BB BC BD BE BF 7C",
         LONG_TAG + '"data":"A0A1A2A3A4A5A6A7A8A9AAABACADAEAFB0B1B2B3B4B5B6B7B8B9BABBBCBDBEBF","fields":{"long_tag":"'
@@ -112,23 +151,23 @@ ROWS = (
     ),
     (
         "FF FF 82 B7 42 0A 1B 2C 13 03 01!40 23 45 3D",
-        f'{{"type":"miss","place":2,"reason":"faulty","at":10,"faults":"40",{SEEMS_WRITE}}}\n',
+        f'{{"type":"miss","start":2,"place":2,"reason":"faulty","at":10,"faults":"40",{SEEMS_WRITE}}}\n',
         "",
     ),
     (
         "FF FF 82 B7 42 0A 1B 2C 13 FF 01",
-        f'{{"type":"miss","place":2,"reason":"missing","count":255,{SEEMS_WRITE}}}\n',
+        f'{{"type":"miss","start":2,"place":2,"reason":"missing","count":255,{SEEMS_WRITE}}}\n',
         "",
     ),
     (BY_PRIMARY + "0G", IDENTIFY, "bad hex at 21\n"),
     ("FF FF @ FF", "", "bad hex at 6\n"),
 )
 
-# An input that cannot be read further.
+# An input after which a read fails.
 FAILED_READS = (
     ("", "", "read fault\n"),
     (BY_PRIMARY, IDENTIFY, "read fault\n"),
-    (BY_PRIMARY.rstrip(), f'{{"type":"miss","place":2,"reason":"missing","count":1,{SEEMS_IDENTIFY}}}\n', "read fault\n"),
+    (BY_PRIMARY.rstrip(), f'{{"type":"miss","start":2,"place":2,"reason":"missing","count":1,{SEEMS_IDENTIFY}}}\n', "read fault\n"),
 )
 
 # What was heard as raw bytes.
@@ -138,7 +177,7 @@ RAW_ROWS = (
     (b"@a /" + bytes.fromhex(BY_PRIMARY), identify(6), ""),
 )
 
-ONE_PREAMBLE = f'{{"type":"miss","place":8,"reason":"one_preamble",{SEEMS_IDENTIFY}}}\n'
+ONE_PREAMBLE = f'{{"type":"miss","start":8,"place":8,"reason":"one_preamble",{SEEMS_IDENTIFY}}}\n'
 
 # As in rows.explain.
 FAILED_WRITES = (
@@ -148,7 +187,7 @@ FAILED_WRITES = (
     FailedWrite("FF FF 82 B7/FF FF FF ", write=0, reads=12),
 )
 
-# The same of raw bytes.
+# Like `FAILED_WRITES`, for raw bytes.
 RAW_FAILED_WRITES = (
     FailedWrite(bytes.fromhex(MESSAGES), write=0, reads=7),
     FailedWrite(bytes.fromhex(MESSAGES), write=1, reads=13, written=IDENTIFY),

@@ -3,7 +3,7 @@
 from .answer import REPLY_TO_PRIMARY
 from .device import image
 
-# Lines, and what is said to them.
+# Lines, and the answers to them.
 LINES = "counter\nrestart\n\nimage\n"
 SAID = f"counter 0\nok\n-\nimage {image(2)}\n"
 
@@ -24,7 +24,7 @@ ROWS = (
         "FF FF FF FF FF 86 B7 42 0A 1B 2C 10 05 00 00 00 00 00 5B\n",
         "",
     ),
-    # What is written stays, unless the device is protected.
+    # A write changes the device, unless the device is protected.
     (
         "FF FF 82 B7 42 0A 1B 2C 13 03 01 23 45 3D\n"
         "protect on\n"
@@ -62,7 +62,7 @@ ROWS = (
     ),
 )
 
-# An input before a read that fails, and what is written: whole lines alone are served.
+# An input before a read that fails, and what is written: only whole lines are answered.
 FAILED_READS = (
     ("", "", "read fault\n"),
     ("counter", "", "read fault\n"),

@@ -2,10 +2,10 @@
 
 from .device import sim_text
 
-# What a script without a request leads to.
+# The text of a script without a request.
 AS_IT_WAS = sim_text("")
 
-# What a script leads to in which nothing is asked, and a garbled request is heard once.
+# The text of a script without submissions, in which a garbled request is heard once.
 FAULTS_SPOKEN = sim_text("D 5 86B7420A1B2C13028800D7\n")
 
 # A script, its text, and the line of its fault, if it has one.

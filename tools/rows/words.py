@@ -71,7 +71,7 @@ NO_CALLS = (
     ["request", "P", "@0", "0", "--preambles", "4"],
 )
 
-# Words before a long word, and after it; then the status, and how what is said begins.
+# Words before a long word, and after it; then the status, and the beginning of what is said.
 LONG_CALLS = (
     ([], [], 2, "error: "),
     (["dump"], [], 2, "error: "),

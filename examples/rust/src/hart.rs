@@ -51,12 +51,12 @@ const NO_FRAME: Frame = Frame {
 const AT_ONCE: usize = 16;
 
 impl Frame {
-    /// The expansion bytes.
+    /// Returns the expansion bytes.
     pub fn expansion(&self) -> &[u8] {
         &self.expansion[..usize::from(self.expansion_len)]
     }
 
-    /// The payload.
+    /// Returns the payload.
     pub fn payload(&self) -> &[u8] {
         &self.payload[..usize::from(self.payload_len)]
     }
@@ -70,13 +70,13 @@ pub struct Finder {
 }
 
 impl Finder {
-    /// The frames that are decided by further bytes, with their places in all that was heard.
+    /// Returns the frames that are decided by further bytes, with their places in all that was heard.
     pub fn hear(&mut self, bytes: &[u8]) -> Vec<Frame> {
         self.held.extend_from_slice(bytes);
         self.found(false)
     }
 
-    /// The frames that are decided by the end of the bytes.
+    /// Returns the frames that are decided by the end of the bytes.
     pub fn end(&mut self) -> Vec<Frame> {
         self.found(true)
     }
@@ -85,7 +85,7 @@ impl Finder {
         let mut all = Vec::new();
         let mut frames = [NO_FRAME; AT_ONCE];
         loop {
-            // SAFETY: both pointers are those of slices, so they are not null and aligned and have as many elements as is said; the
+            // SAFETY: both pointers are those of slices, so they are aligned, not null, and have the stated number of elements; the
             // frames are initialised and overlap nothing.
             let search =
                 unsafe { hart_find_in_bytes(self.held.as_ptr(), self.held.len(), ended, frames.as_mut_ptr(), AT_ONCE) };

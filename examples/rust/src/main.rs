@@ -5,7 +5,7 @@ mod hart;
 use hart::{Finder, Frame};
 use std::io::{self, Read, Write};
 
-/// Bytes in hex, or a dash for none.
+/// Returns bytes in hex, or a dash for none.
 fn hex(bytes: &[u8]) -> String {
     if bytes.is_empty() {
         return "-".to_string();
@@ -13,7 +13,7 @@ fn hex(bytes: &[u8]) -> String {
     bytes.iter().map(|byte| format!("{byte:02X}")).collect()
 }
 
-/// The address of a frame.
+/// Returns the address of a frame.
 fn address(frame: &Frame) -> String {
     if !frame.is_unique {
         return format!("@{}", frame.polling_address);
