@@ -23,7 +23,7 @@ def main():
     runs = int(sys.argv[2]) if len(sys.argv) > 2 else 15
     length = INPUT_LIMIT // (DIGITS_A_LINE + 1) * (DIGITS_A_LINE // 2)
     request = b"\xff" * 5 + with_check_byte(bytes.fromhex("82B7420A1B2C1303012345"))
-    # This noise has starts, but no frame: the answer shows that the request is the one frame.
+    # This noise has starts, but no frame: the answer shows that the request is the only frame.
     noise = random.Random(1).randbytes(length - len(request))
     middle = len(noise) // 2
     text = dense(noise[:middle] + request + noise[middle:])

@@ -21,7 +21,7 @@ from instructions import counted
 
 INPUT_LIMIT = 1_048_576
 DIGITS_A_LINE = 60
-# Two digits and a space.
+# An item of two digits and a space takes 3 bytes.
 SPACED = INPUT_LIMIT // 3
 # A line of 60 digits has 30 characters and its line feed.
 DENSE = INPUT_LIMIT // (DIGITS_A_LINE + 1) * (DIGITS_A_LINE // 2)

@@ -12,8 +12,10 @@ Usage: bench/explain.py [PROGRAM [RUNS]]; PROGRAM is ./hart, RUNS 15.
 import subprocess
 import sys
 
-from dump import SPACED, best_time, inputs, spaced
+from dump import INPUT_LIMIT, SPACED, best_time, inputs, spaced, with_check_byte
 from instructions import counted
+
+REQUEST, REPLY = "82B7420A1B2C1303012345", "86B7420A1B2C13050040012345"
 
 
 def written(command, text):
@@ -21,10 +23,19 @@ def written(command, text):
     return len(subprocess.run(command, input=text, capture_output=True, check=True).stdout)
 
 
+def logged():
+    """A log of `hart-listen`, as text: a date before each message, and a silence after it."""
+    messages = (b"\xff" * 5 + with_check_byte(bytes.fromhex(body)) for body in (REQUEST, REPLY))
+    turn = "".join(f"@12:00:01.25 {message.hex(' ').upper()} /\n" for message in messages).encode()
+    return turn * (INPUT_LIMIT // len(turn))
+
+
 def main():
     program = sys.argv[1] if len(sys.argv) > 1 else "./hart"
     runs = int(sys.argv[2]) if len(sys.argv) > 2 else 15
     dump = [program, "dump"]
+    for words in (["explain"], ["explain", "--json"]):
+        print(f"{' '.join(words)}, a log with dates and silences: {counted([program, *words], logged())}")
     for name, characters in inputs(SPACED).items():
         text = spaced(characters)
         dumped = best_time(dump, text, runs)

@@ -38,7 +38,7 @@ COPIED = ["HANDLES", "crates.txt"] + [f"crates/{name}/{part}" for name in CRATES
 PLACES = {"main.txt": "src/main.rt", "invariants.txt": "proofs/scan/Invariants.antt"}
 LENGTH = 1 << 20
 SCANS = 200
-# So many are made by bench/scan for the word 0.
+# How many folds bench/scan makes for the word 0.
 FOLDS = 1000
 
 
