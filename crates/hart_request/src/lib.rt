@@ -1,8 +1,8 @@
 //! The data of a request, made from words that give its fields by name.
 //!
-//! Each field of a command is given once, in any order, as NAME=VALUE. [`payload_of`] makes the data of the request from these words. If they
-//! make no data, it returns a [`BadField`] instead: the number of a word, counted as in `hart request` (3 is COMMAND, 4 the first of these
-//! words), and a [`FieldFault`] that says why. [`FieldFault::reason`] puts the fault into words.
+//! Each field of a command is given once, in any order, as NAME=VALUE. [`payload_of`] makes the data of the request from these words. If
+//! they make no data, it returns a [`BadField`] instead: the number of a word, counted as in `hart request` (3 is COMMAND, 4 the first of
+//! these words), and a [`FieldFault`] that says why. [`FieldFault::reason`] puts the fault into words.
 //!
 //! ```rust
 //! let data = payload_of(6, &["polling_address=5", "loop_current_mode=1"])?;

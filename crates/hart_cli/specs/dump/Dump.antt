@@ -37,6 +37,6 @@ pub record AreDecidedLines (chars : List Character) (lines : List ℕ) : Type 0 
   pub text : lines ≡ dump_text frames
 
 -- A call of `dump` reads an input of at most 1,048,576 bytes, and writes the line of each frame in the input. If a write fails, all lines
--- that were decided before the last 16,384 bytes have been written.
+-- are written that were decided before the last 16,384 bytes were read.
 abbrev pub DumpOutcome : OutcomeRelation
 DumpOutcome = LiveOutcome item_decoding input_limit AreFrameLines AreDecidedLines

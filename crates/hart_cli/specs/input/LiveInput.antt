@@ -41,7 +41,7 @@ pub record IsDecidedText {Heard : Type 0} (decoding : Decoding Heard) (IsDecided
   pub decided : IsDecided heard text
 
 -- No text was late. The input consists of `before` and `last`. `last` has at most 16,384 bytes, the most that one read returns. All text
--- that `before` decides was written, and perhaps more.
+-- that `before` decides was written. More may have been written.
 pub record WroteInTime (IsDecided : List ℕ → List ℕ → Type 0) (input : List ℕ) (writer writer_after : Stream) : Type 0 where
   pub before : List ℕ
   pub last : List ℕ

@@ -19,7 +19,7 @@ mod text;
 
 /// Reads the characters heard on a HART line as hex items, and writes a line of text for each frame.
 ///
-/// The call reads a portion at a time. If a write fails, all lines that were decided before the last 16,384 bytes read have been written.
+/// The call reads a portion at a time. If a write fails, all lines are written that were decided before the last 16,384 bytes were read.
 /// The contract says no more about when a line is written. Tests show that, before each read, the lines of all frames decided so far are
 /// written. So a live HART line is dumped while it is heard, up to [`INPUT_LIMIT`] bytes. The call allocates nothing. It takes an allocator
 /// only to be called like the other calls.

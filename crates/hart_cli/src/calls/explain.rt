@@ -35,7 +35,7 @@ const RAW_LIMIT: usize = usize::MAX - 1;
 /// line fell silent. What was heard before the silence is explained as if the input ended there, so no message crosses the silence. A `@`
 /// and a word give the date of what follows. Each message, and each place where a message only seems to start, has the last date before it.
 ///
-/// The call reads a portion at a time. If a write fails, all text that was decided before the last 16,384 bytes read has been written. The
+/// The call reads a portion at a time. If a write fails, all text is written that was decided before the last 16,384 bytes were read. The
 /// contract says no more about when a part of the text is written. Tests show that, before each read, all text decided so far is written.
 /// So a live HART line is explained while it is heard. From one read to the next, the call keeps at most 268 characters that may still
 /// become a frame, and their dates. It allocates nothing.

@@ -14,7 +14,7 @@ use hart_explain::{Before, Pairs, objects, words};
 use hart_frame::Sighting;
 use hart_listen::Teller;
 
-/// How sightings are told.
+/// The form of the text about sightings.
 #[derive(Clone, Copy)]
 pub enum Style {
     /// In words.
@@ -26,7 +26,7 @@ pub enum Style {
 /// Prints dated sightings in a style.
 #[derive(Drop)]
 pub struct Printer {
-    /// How sightings are told.
+    /// The form of the text.
     pub style: Style,
     /// The table of hex digits for the text.
     pub pairs: Pairs,
@@ -34,7 +34,7 @@ pub struct Printer {
     pub page: Page,
 }
 
-/// After a failed write, the page drops what is told.
+/// If a write failed, the text of further sightings is dropped.
 impl<W: Sink> Teller<W> for Printer {
     ghost told = { λ start since now list. IsPrinted
         start.teller.style (W.stream start.writer) (W.stream since.writer)
