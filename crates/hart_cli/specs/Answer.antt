@@ -7,8 +7,8 @@ use Rattle.hart_device.specs.answer.Delivery.{Brings, Brought, answer_to}
 use Rattle.hart_device.specs.Device.{DeviceState}
 use Rattle.hart_text.specs.Items.{ReadsAs}
 use Rattle.hart_cli.specs.ImageWord.{OutcomeWith, OutcomeRelation}
-use Rattle.hart_cli.specs.text.InputChars.{IsWholeTextFault}
-use Rattle.hart_cli.specs.text.MessageLine.{IsMessageLine}
+use Rattle.hart_cli.specs.input.InputChars.{IsWholeTextFault}
+use Rattle.hart_station.specs.Lines.{IsMessageLine}
 use Rattle.hart_cli.specs.input.WholeInput.{WholeOutcome}
 
 -- The text of a device's answer is one line: the message of the answer in hex. This message has as many preamble bytes as the device's

@@ -7,6 +7,8 @@ use Rattle.hart_line.specs.declared.fault.LineFault.TheVariants as line_faults
 use Rattle.hart_cli.specs.declared.fault.CliFault.{CliFault}
 use Rattle.hart_cli.specs.declared.fault.CliFault.TheVariants.{Read, Write, TooLong, BadHex, Line, Image, Memory, BadWord, BadField}
 use Rattle.hart_request.specs.FaultText.{reason_text}
+use Rattle.hart_station.specs.declared.fault.TextFault.{TextFault}
+use Rattle.hart_station.specs.declared.fault.TextFault.TheVariants as texts
 
 -- The text of a fault, without the reason why a word of `hart request` is bad. The place of bad hex and the number of a bad word are in
 -- decimal.
@@ -39,3 +41,9 @@ abbrev pub call_fault : LineFault → CliFault
 call_fault (line_faults.Memory none) = Memory none
 call_fault (line_faults.Undetected event leg) = Line (line_faults.Undetected event leg)
 call_fault (line_faults.BadLine number) = Line (line_faults.BadLine number)
+
+-- The fault that a call returns for a text or a word that is bad.
+abbrev pub of_text : TextFault → CliFault
+of_text (texts.BadHex place) = BadHex place
+of_text (texts.BadWord number) = BadWord number
+of_text (texts.BadField bad) = BadField bad

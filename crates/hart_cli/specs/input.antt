@@ -1,5 +1,6 @@
 -- Reading an input.
 pub mod Input
+pub mod InputChars
 pub mod WholeInput
 pub mod Decoding
 pub mod LiveInput

@@ -1,19 +1,18 @@
 //! Why a call of the command line ended early. Functions, not attributes of `thiserror`, define the texts, because attributes have no
 //! contracts.
 
-ghost use Rattle.std.specs.Prelude.{◌≡◌, ◌++◌, ◌≤◌, [], length, Some};
+ghost use Rattle.std.specs.Prelude.{◌≡◌, Some};
 ghost use Rattle.hart_line.specs.FaultText.{joined};
 ghost use Rattle.hart_cli.specs.FaultNumbers.{cli_fault_number};
 ghost use Rattle.hart_cli.specs.FaultText.{fault_line, fault_text, reason_of, text_before_reason};
 ghost use Rattle.hart_request.specs.Reason.{reasoned};
-ghost use Rattle.hart_cli.specs.declared.fault.CliFault.TheVariants.{BadField as FaultOfField, Image, Memory, Write};
+ghost use Rattle.hart_cli.specs.declared.fault.CliFault.TheVariants.{Image, Memory, Write};
 
 use crate::stream::Failed;
-use arrayvec::ArrayString;
 use hart_device::DeviceFault;
 use hart_line::{FaultText, LineFault, NoRoom};
 use hart_request::{BadField, Reason};
-use itoa::Buffer;
+use hart_station::{FaultLine, TextFault, line_of_parts};
 use std::fmt;
 use thiserror::Error;
 
@@ -38,14 +37,11 @@ pub enum CliFault {
     /// Memory was refused, for this number of bytes or other elements.
     Memory(NoRoom),
     /// This word of `hart encode` or `hart request` is bad: 1 is WHO, 2 ADDRESS, 3 COMMAND and 4 DATA. `hart request` has no DATA. On the
-    /// command line of `hart master`, 1 is WHO; in a line that it reads, the words are counted from 1.
+    /// command line of `hart master`, 1 is WHO.
     BadWord { number: u8 },
     /// The words of a request do not give the fields of its command.
     BadField(BadField),
 }
-
-/// The length of the longest text: 54 characters of a fault, 80 of a reason, and a line feed.
-const LONGEST_LINE: usize = 135;
 
 impl CliFault {
     /// Returns the number of the fault, 1 to 8.
@@ -64,16 +60,11 @@ impl CliFault {
         }
     }
 
-    /// Returns the text of the fault and a line feed. The function allocates nothing, so that it can report refused memory. The function
-    /// pushes the text part by part, since no contract says that `write!` succeeds.
-    pub fn text_line(self) -> ArrayString<LONGEST_LINE>
+    /// Returns the text of the fault and a line feed. The function allocates nothing, so that it can report refused memory.
+    pub fn text_line(self) -> FaultLine
         ensures { result.bytes ≡ fault_line self }
     {
-        let mut line = ArrayString::new();
-        push_text(&mut line, self.text());
-        push_reason(&mut line, self.reason());
-        line.push_str("\n");
-        line
+        line_of_parts(self.text(), self.reason())
     }
 
     /// Returns the text of the fault, without the reason why a word of `hart request` is bad.
@@ -84,17 +75,12 @@ impl CliFault {
             CliFault::Read => FaultText::plain("read fault"),
             CliFault::Write => FaultText::plain("write fault"),
             CliFault::TooLong => FaultText::plain("input too long"),
-            CliFault::BadHex { place } => FaultText::numbered("bad hex at ", place),
+            CliFault::BadHex { place } => TextFault::BadHex { place }.text(),
             CliFault::Line(fault) => fault.text(),
             CliFault::Image(fault) => FaultText::plain(fault.text()),
             CliFault::Memory(none) => LineFault::Memory(none).text(),
-            CliFault::BadWord { number } => FaultText::numbered("bad word ", usize::from(number)),
-            CliFault::BadField(bad) => FaultText {
-                before: "bad word ",
-                number: Some(bad.number),
-                comma: ": ",
-                word: "",
-            },
+            CliFault::BadWord { number } => TextFault::BadWord { number }.text(),
+            CliFault::BadField(bad) => TextFault::BadField(bad).text(),
         }
     }
 
@@ -107,33 +93,6 @@ impl CliFault {
             _ => Reason::none(),
         }
     }
-}
-
-/// Adds the text of a fault to a line.
-fn push_text(line: &mut ArrayString<LONGEST_LINE>, text: FaultText)
-    requires { line.old.bytes ≡ [] }
-    ensures text { line.new.bytes ≡ joined text }
-    ensures few { length line.new.bytes ≤ 54 }
-{
-    line.push_str(text.before);
-    if let Some(number) = text.number {
-        line.push_str(Buffer::new().format(number));
-    }
-    line.push_str(text.comma);
-    line.push_str(text.word);
-}
-
-/// Adds a reason to a line.
-fn push_reason(line: &mut ArrayString<LONGEST_LINE>, reason: Reason)
-    requires { length line.old.bytes ≤ 54 }
-    ensures reason { line.new.bytes ≡ line.old.bytes ++ reasoned reason }
-    ensures few { length line.new.bytes ≤ 134 }
-{
-    line.push_str(reason.before);
-    if let Some(number) = reason.number {
-        line.push_str(Buffer::new().format(number));
-    }
-    line.push_str(reason.after);
 }
 
 impl fmt::Display for CliFault {
@@ -155,11 +114,17 @@ impl From<Failed> for CliFault {
     }
 }
 
-impl From<BadField> for CliFault {
-    ghost from_gives = { λ bad e. e ≡ FaultOfField bad };
+impl From<TextFault> for CliFault {
+    ghost use Rattle.hart_cli.specs.FaultText.{of_text};
 
-    fn from(bad: BadField) -> CliFault {
-        CliFault::BadField(bad)
+    ghost from_gives = { λ fault e. e ≡ of_text fault };
+
+    fn from(fault: TextFault) -> CliFault {
+        match fault {
+            TextFault::BadHex { place } => CliFault::BadHex { place },
+            TextFault::BadWord { number } => CliFault::BadWord { number },
+            TextFault::BadField(bad) => CliFault::BadField(bad),
+        }
     }
 }
 

@@ -6,12 +6,11 @@ ghost use Rattle.hart_cli.specs.declared.input.InputEnd.TheVariants.{Ended};
 use crate::fault::CliFault;
 use crate::stream::Source;
 use hart_line::Filling;
+use hart_station::INPUT_LIMIT;
 use std::alloc::Global;
 
 pub mod ahead;
-
-/// The greatest number of bytes that an input may have, except for `explain`, `serve` and `master`.
-pub const INPUT_LIMIT: usize = 1_048_576;
+pub mod input_chars;
 
 /// The room for an input: all bytes that the input may have, and one space that completes the last item.
 const INPUT_ROOM: usize = INPUT_LIMIT + 1;

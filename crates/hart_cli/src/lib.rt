@@ -27,7 +27,6 @@
 //! - `output`, `kept`: the writing of a text, either whole or piece by piece.
 //! - `session`: calls that answer each line that they read.
 //! - `stream`: readers and writers as the calls see them.
-//! - `text`: the characters of an input, and lines of words and bytes.
 //! - `calls`: a module for each call.
 #![tactic(auto)]
 
@@ -39,20 +38,19 @@ mod kept;
 mod output;
 mod session;
 mod stream;
-mod text;
 
 pub use calls::answer::{answer, one_answer};
 pub use calls::dump::{dump, one_dump};
-pub use calls::encode::{encode_text, one_encoding};
+pub use calls::encode::encode_text;
 pub use calls::explain::laws::{
     explanations_grow, explanations_name_the_messages_of_dump, json_tells_what_explain_tells,
 };
 pub use calls::explain::printer::Style;
 pub use calls::explain::{explain, one_explanation};
-pub use calls::master::{MasterSettings, MasterWords, master, master_by_words, one_session};
+pub use calls::master::{MasterWords, master, master_by_words, one_session};
 pub use calls::program::laws::{one_call, words_are_calls};
 pub use calls::program::{DONE, FAULT, NO_CALL, program};
-pub use calls::request::{RequestWords, one_request, request};
+pub use calls::request::request;
 pub use calls::serve::{one_service, serve};
 pub use calls::sim::{one_simulation, simulate};
 pub use fault::CliFault;
@@ -60,12 +58,12 @@ pub use hart_listen::laws::{
     every_start_outside_messages_has_one_line, hints_of_explanations_are_right,
     json_objects_are_lines,
 };
-pub use hart_request::laws::{
-    fields_of_requests_are_those_given, shown_values_are_accepted, values_are_shown_as_given,
-};
+pub use hart_request::laws::{shown_values_are_accepted, values_are_shown_as_given};
 pub use hart_request::{BadField, FieldFault};
+pub use hart_station::laws::{fields_of_requests_are_those_given, one_encoding, one_request};
+pub use hart_station::request::RequestWords;
+pub use hart_station::{INPUT_LIMIT, MasterSettings};
 pub use image_word::one_device;
-pub use input::INPUT_LIMIT;
+pub use input::input_chars::inputs_are_unambiguous;
 pub use stream::plain::Plain;
 pub use stream::{Failed, Sink, Source};
-pub use text::input_chars::inputs_are_unambiguous;

@@ -1,35 +1,16 @@
 //! Calls that answer lines. Such a call writes one line for each line that it reads.
-ghost use Rattle.std.specs.Prelude.{◌≡◌, ◌≤◌, ◌+◌, ◌∷◌, [], ◌++◌, ℕ, List, None, Option, Some, codes, length};
-ghost use Rattle.hart_cli.specs.input.Input.{input_limit};
-ghost use Rattle.hart_cli.specs.session.Session.{ServedOutcome, bad_line};
+ghost use Rattle.std.specs.Prelude.{◌≡◌, []};
+ghost use Rattle.hart_cli.specs.session.Session.{ServedOutcome};
 ghost use Rattle.hart_cli.specs.session.Server.{Keeps, ServesInput};
 
 use crate::fault::CliFault;
 use crate::input::{InputEnd, PORTION_LEN, read_portion};
 use crate::session::server::Server;
 use crate::stream::{Failed, Sink, Source};
-use hart_values::ByteList;
+use hart_station::Station;
 use std::alloc::Global;
 
 mod server;
-
-/// The answer to a line. The longest answer has the word `send`, a space, and the line of a message of 287 bytes.
-pub type SaidLine = ByteList<866>;
-
-/// Answers lines of text, as the device of `hart serve` and the master of `hart master` do.
-pub trait Station {
-    // The relation between the station before a line, what it reads of the line, the station afterwards, and its answer. The station reads
-    // nothing of a line that is too long.
-    ghost serves: { Self → Option (List ℕ) → Self → List ℕ → Type 0 };
-
-    /// Answers a line. `text` is the line and one more space.
-    fn answer(&mut self, text: &[u8]) -> SaidLine
-        requires short { length text.now ≤ input_limit + 1 }
-        ensures { (line : List ℕ) → text.now ≡ line ++ 32 ∷ [] → serves self.old (Some line) self.new result };
-
-    // A line that is too long changes nothing.
-    ghost too_long: { (station : Self) → serves station None station (bad_line (codes "too long")) };
-}
 
 /// Reads the lines of an input, and writes the station's answer to each. All memory is allocated before the first line is read.
 ///

@@ -8,21 +8,6 @@ ghost use Rattle.hart_values.specs.packed_text.Packing.{IsPackedSize};
 ghost use Rattle.hart_commands.specs.declared.fields.FieldKind.TheVariants.{Bytes, Date, LatinText, Number, PackedText};
 ghost use Rattle.hart_commands.specs.declared.fields.FieldSize.TheVariants.{AllBut, Exactly};
 ghost use Rattle.hart_request.specs.Values.{greatest_of, hex_of, number_bytes, padded, shown_value, value_of};
-ghost use Rattle.hart_commands.specs.Commands.{request_rows};
-ghost use Rattle.hart_commands.specs.Fields.{bytes_of, fields_of};
-ghost use Rattle.hart_frame.specs.wire.FrameParts.{FrameParts};
-ghost use Rattle.hart_request.specs.Given.{AreGiven};
-ghost use Rattle.hart_request.specs.Request.{IsRequestByNames};
-ghost use Rattle.hart_request.specs.RequestWords.{RequestWords as GivenWords};
-
-/// `hart explain` splits the data of a request into fields by a table. If the data of `hart request` are split in this way, they have all
-/// fields of the command. Each field has the bytes of the value in its word, and no byte follows the last field.
-pub fn fields_of_requests_are_those_given()
-    ensures given { (words : GivenWords) (frame : FrameParts) → IsRequestByNames words frame
-        → AreGiven words.fields (request_rows frame.command) (fields_of (request_rows frame.command) frame.payload) }
-    ensures whole { (words : GivenWords) (frame : FrameParts) → IsRequestByNames words frame
-        → bytes_of (fields_of (request_rows frame.command) frame.payload) ≡ frame.payload }
-{}
 
 /// `hart explain` shows the bytes of a given value as that value. A number is shown as the same number, and a text as its characters and
 /// the added spaces, in double quotes. A date is shown as its word, and bytes as the bytes that were read.

@@ -10,9 +10,9 @@ use Rattle.hart_frame.specs.wire.Message.{IsPreambleCount}
 use Rattle.hart_cli.specs.declared.calls.program.command_line.Call.{Call}
 use Rattle.hart_cli.specs.declared.calls.program.command_line.Call.TheVariants.{Answer, Dump, Encode, Master, Request}
 use Rattle.hart_cli.specs.declared.calls.program.command_line.Call.TheVariants.{Serve, Sim}
-use Rattle.hart_cli.specs.encode.MessageWords.{MessageWords}
+use Rattle.hart_station.specs.Encode.{MessageWords}
 use Rattle.hart_cli.specs.master.MasterWords.{AreInRange, MasterWords}
-use Rattle.hart_request.specs.RequestWords.{RequestWords}
+use Rattle.hart_station.specs.Request.{RequestWords}
 use Rattle.hart_cli.specs.program.CommandLine.{call_of, explain_call, master_words, master_words_of, message_words, number_of}
 use Rattle.hart_cli.specs.program.CommandLine.{optional_number, preambles_of, request_words, request_words_of, words_of}
 use Rattle.hart_cli.specs.program.Program.{HasNumbersInRange}

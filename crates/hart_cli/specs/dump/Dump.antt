@@ -7,7 +7,8 @@ use Rattle.hart_cli.specs.declared.fault.CliFault.{CliFault}
 use Rattle.hart_cli.specs.dump.Text.{dump_text}
 use Rattle.hart_cli.specs.ImageWord.{OutcomeRelation}
 use Rattle.hart_cli.specs.input.Decoding.{item_decoding}
-use Rattle.hart_cli.specs.input.Input.{Ending, input_limit}
+use Rattle.hart_cli.specs.input.Input.{Ending}
+use Rattle.hart_station.specs.Station.{input_limit}
 use Rattle.hart_cli.specs.input.LiveInput.{HasText, LiveOutcome}
 
 -- The lines of `hart dump` for some characters: one line for each frame in them.

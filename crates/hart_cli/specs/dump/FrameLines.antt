@@ -13,7 +13,7 @@ use Rattle.hart_cli.specs.dump.Dump.{AreDecidedLines, AreFrameLines}
 use Rattle.hart_cli.specs.dump.Text.{dump_text}
 use Rattle.hart_cli.specs.input.Ahead.{DecodesAll}
 use Rattle.hart_cli.specs.input.Decoding.{item_decoding}
-use Rattle.hart_cli.specs.input.Input.{input_limit}
+use Rattle.hart_station.specs.Station.{input_limit}
 use Rattle.hart_cli.specs.input.LiveInput.{IsDecidedText, StopsWriting, WroteInTime}
 use Rattle.hart_cli.specs.stream.Stream.{Stream, WritesAll}
 

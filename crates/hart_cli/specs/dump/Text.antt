@@ -7,7 +7,7 @@ use Rattle.hart_frame.specs.declared.wire.kind.FrameKind.{FrameKind}
 use Rattle.hart_frame.specs.declared.wire.kind.FrameKind.TheVariants.{Stx, Ack}
 use Rattle.hart_frame.specs.declared.heard.found.Found.{Found}
 use Rattle.hart_explain.specs.Header.{address_word}
-use Rattle.hart_cli.specs.text.Words.{bytes_word, line_of}
+use Rattle.hart_station.specs.Lines.{bytes_word, line_of}
 
 -- The word of a kind of frame is `STX` for an STX and `ACK` for an ACK.
 abbrev pub kind_word : FrameKind → List ℕ

@@ -8,7 +8,7 @@ use Rattle.hart_cli.specs.dump.Text.{dump_text}
 use Rattle.hart_listen.specs.Dated.{explanation}
 use Rattle.hart_listen.specs.Sightings.{undated}
 use Rattle.hart_cli.specs.input.Input.{Ending}
-use Rattle.hart_cli.specs.text.InputChars.{HasChars}
+use Rattle.hart_cli.specs.input.InputChars.{HasChars}
 use Rattle.hart_cli.specs.declared.fault.CliFault.{CliFault}
 
 -- Lines of `hart dump` and an explanation are about the same messages: the frames before the first fault of an input, if it has one. Each

@@ -7,7 +7,7 @@ use Rattle.hart_cli.specs.declared.fault.CliFault.{CliFault}
 use Rattle.hart_cli.specs.declared.fault.CliFault.TheVariants as faults
 use Rattle.hart_cli.specs.declared.input.InputEnd.TheVariants.{Ended, ReadFailed, TooLong}
 use Rattle.hart_cli.specs.input.Input.{CameTo, Ending, most_at_once}
-use Rattle.hart_cli.specs.text.InputChars.{HasHeardBy}
+use Rattle.hart_cli.specs.input.InputChars.{HasHeardBy}
 
 -- A decoding has four parts. `Has` says what was heard in an input up to its first fault, if any, and which fault that is.
 -- `Decoded` says what can have been decoded when a write fails. `SoFar` says what was heard so far in an input that may go on.

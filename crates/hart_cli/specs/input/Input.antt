@@ -2,15 +2,12 @@
 use Rattle.std.specs.Prelude.{◌≡◌, ◌≢◌, ◌⊎◌, ℕ, ◌+◌, ◌-◌, ◌^◌, ◌≤◌, List, [], ◌∷◌, ◌++◌, length, Option, None, Some}
 use Rattle.std.specs.Io.KnownBytes.{Consumes, IsAtEnd}
 use Rattle.hart_line.specs.declared.memory.NoRoom.{NoRoom}
+use Rattle.hart_station.specs.Station.{input_limit}
 use Rattle.hart_cli.specs.stream.Stream.{Stream, count_after_failure}
 use Rattle.hart_cli.specs.declared.fault.CliFault.{CliFault}
 use Rattle.hart_cli.specs.declared.fault.CliFault.TheVariants as faults
 use Rattle.hart_cli.specs.declared.input.InputEnd.{InputEnd}
 use Rattle.hart_cli.specs.declared.input.InputEnd.TheVariants.{Ended, ReadFailed, TooLong}
-
--- The greatest number of bytes of an input of `answer`, `dump` and `sim`, and of a line of `serve` and `master`.
-abbrev pub input_limit : ℕ
-input_limit = 1048576
 
 -- The greatest number of bytes of an input of `explain`, `serve` and `master`: 2^64 - 1.
 abbrev pub stream_limit : ℕ

@@ -1,28 +1,14 @@
 -- What `hart master` writes for the lines that it reads (implementation choice).
-use Rattle.std.specs.Prelude.{◌≡◌, ◌⊎◌, ℕ, ◌≤◌, ◌<◌, Err, unwrap_or}
+use Rattle.std.specs.Prelude.{◌≡◌, ◌⊎◌, ℕ, Err, unwrap_or}
 use Rattle.hart_values.specs.declared.master_id.MasterId.{MasterId}
 use Rattle.hart_values.specs.declared.master_id.MasterId.TheVariants.{Primary, Secondary}
-use Rattle.hart_frame.specs.wire.Message.{IsPreambleCount}
-use Rattle.hart_master.specs.declared.frame_hand.FrameHand.TheVariants.{Empty}
 use Rattle.hart_line.specs.script.Words.{HasNoValue, IsWho}
 use Rattle.hart_cli.specs.ImageWord.{OutcomeRelation}
-use Rattle.hart_cli.specs.declared.calls.master.MasterSettings.{MasterSettings}
+use Rattle.hart_station.specs.declared.master_lines.MasterSettings.{MasterSettings}
 use Rattle.hart_cli.specs.declared.fault.CliFault.TheVariants.{BadWord}
-use Rattle.hart_cli.specs.master.Line.{LineMaster, ServesMasterLine}
+use Rattle.hart_station.specs.MasterLines.{ServesMasterLine, new_master}
 use Rattle.hart_cli.specs.master.MasterWords.{MasterWords}
 use Rattle.hart_cli.specs.session.Session.{ServedOutcome}
-
--- The master at the beginning of a session of `hart master`. It has no request in hand.
-abbrev pub new_master : MasterSettings → LineMaster
-new_master settings = record {
-  who = settings.who;
-  preambles = settings.preambles;
-  master = record { retries = settings.retries; reply_limit = settings.reply_limit; hand = Empty };
-}
-
--- The limits of settings: at most 15 retries, a reply timeout of at least 1, and 5 to 20 preamble bytes.
-abbrev pub AreSettings : MasterSettings → Type 0
-AreSettings settings = (settings.retries ≤ 15) × (0 < settings.reply_limit) × IsPreambleCount settings.preambles
 
 -- A master with these settings answered the lines that the call read.
 abbrev pub MasterOutcome : MasterSettings → OutcomeRelation

@@ -7,9 +7,9 @@ use Rattle.std.specs.Str.Parse.{digits_value, without_leading_plus}
 use Rattle.clap.specs.Words.{App, Row, Rule, Text, all_of, fault_of, first_of, new_app, new_rule, subcommand_of, with_rule, with_subcommand}
 use Rattle.clap.specs.declared.builder.action.ArgAction.TheVariants.{Append, SetTrue}
 use Rattle.clap.specs.declared.builder.value_parser.ValueParser.TheVariants.{Signed}
-use Rattle.hart_cli.specs.encode.MessageWords.{MessageWords}
+use Rattle.hart_station.specs.Encode.{MessageWords}
 use Rattle.hart_cli.specs.master.MasterWords.{MasterWords}
-use Rattle.hart_request.specs.RequestWords.{RequestWords}
+use Rattle.hart_station.specs.Request.{RequestWords}
 use Rattle.hart_cli.specs.declared.calls.program.command_line.Call.{Call}
 use Rattle.hart_cli.specs.declared.calls.program.command_line.Call.TheVariants.{Answer, Dump, Encode, Explain, Master, Request}
 use Rattle.hart_cli.specs.declared.calls.program.command_line.Call.TheVariants.{Serve, Sim}

@@ -5,13 +5,13 @@ use Rattle.hart_frame.specs.wire.Message.{IsPreambleCount}
 use Rattle.hart_cli.specs.Answer.{AnswerOutcome}
 use Rattle.hart_cli.specs.program.CommandLine.{Calls, call_of}
 use Rattle.hart_cli.specs.dump.Dump.{DumpOutcome}
-use Rattle.hart_cli.specs.encode.Encode.{EncodeOutcome}
+use Rattle.hart_cli.specs.Encode.{EncodeOutcome}
 use Rattle.hart_cli.specs.explain.Explain.{ExplainOutcome}
 use Rattle.hart_cli.specs.FaultText.{fault_line}
 use Rattle.hart_cli.specs.master.Master.{MasterCallOutcome}
 use Rattle.hart_cli.specs.master.MasterWords.{AreInRange}
-use Rattle.hart_cli.specs.request.Request.{RequestOutcome}
-use Rattle.hart_cli.specs.serve.Serve.{ServeOutcome}
+use Rattle.hart_cli.specs.Request.{RequestOutcome}
+use Rattle.hart_cli.specs.Serve.{ServeOutcome}
 use Rattle.hart_cli.specs.sim.Sim.{SimOutcome}
 use Rattle.hart_cli.specs.stream.Stream.{Stream, WritesUnlessFailed}
 use Rattle.hart_cli.specs.declared.fault.CliFault.{CliFault}

@@ -5,8 +5,9 @@ use Rattle.std.specs.Str.Lines.{strip_carriage_return}
 use Rattle.hart_cli.specs.declared.input.InputEnd.{InputEnd}
 use Rattle.hart_cli.specs.declared.input.InputEnd.TheVariants.{Ended}
 use Rattle.hart_cli.specs.declared.stream.Failed.{Failed}
-use Rattle.hart_cli.specs.input.Input.{CameTo, ReadsWithin, input_limit, stream_limit}
-use Rattle.hart_cli.specs.session.Session.{Manner, Serves, StopsSaying, last_lines, line_read}
+use Rattle.hart_cli.specs.input.Input.{CameTo, ReadsWithin, stream_limit}
+use Rattle.hart_station.specs.Station.{Manner, Serves, input_limit, line_read}
+use Rattle.hart_cli.specs.session.Session.{StopsSaying, last_lines}
 use Rattle.hart_cli.specs.stream.Kept.{AddsText}
 use Rattle.hart_cli.specs.stream.Stream.{FailsToWrite, Stream, Writes, WritesAll}
 

@@ -1,32 +1,14 @@
 -- The output of a call in which a station, a device or a master, answers each line that it reads (implementation choice).
-use Rattle.std.specs.Prelude.{◌≡◌, ◌⊎◌, ℕ, ◌/◌, ◌+◌, List, [], ◌∷◌, ◌++◌, Option, None, Some, Ok, Err, codes, if◌then◌else◌, length, nat_le}
+use Rattle.std.specs.Prelude.{◌≡◌, ◌⊎◌, ℕ, ◌+◌, List, [], ◌∷◌, ◌++◌, Ok, Err}
 use Rattle.hart_line.specs.script.Lines.{lines_of}
 use Rattle.hart_line.specs.declared.memory.NoRoom.{NoRoom}
 use Rattle.hart_cli.specs.declared.fault.CliFault.TheVariants as faults
+use Rattle.hart_station.specs.Station.{Manner, Serves, chars_room, input_limit}
 use Rattle.hart_cli.specs.declared.input.InputEnd.TheVariants.{Ended, ReadFailed, TooLong}
 use Rattle.hart_cli.specs.ImageWord.{OutcomeRelation}
-use Rattle.hart_cli.specs.input.Input.{CameTo, Ending, Left, ReadsToWithin, input_limit, stream_limit}
+use Rattle.hart_cli.specs.input.Input.{CameTo, Ending, Left, ReadsToWithin, stream_limit}
 use Rattle.hart_cli.specs.input.LiveInput.{WroteInTime}
 use Rattle.hart_cli.specs.stream.Stream.{FailsToWrite, Stream, WritesAll}
-
--- What a station reads of a line: the whole line, or nothing if the line is too long. A line of more than 1,048,576 bytes is too long.
-abbrev pub line_read : List ℕ → Option (List ℕ)
-line_read line = if nat_le (length line) input_limit then Some line else None
-
--- The answer to a bad line is a line that says why the line is bad.
-abbrev pub bad_line : List ℕ → List ℕ
-bad_line reason = codes "bad line: " ++ reason ++ 10 ∷ []
-
--- A relation between a station's state before a line, what it reads of the line, its state afterwards, and its answer.
-abbrev pub Manner : Type 0 → Type 1
-Manner Station = Station → Option (List ℕ) → Station → List ℕ → Type 0
-
--- A station answers lines one after another, each in the state to which the earlier lines led.
-pub data Serves {Station : Type 0} (ServesLine : Manner Station) : Station → List (List ℕ) → Station → List ℕ → Type 0 where
-  nothing : (station : Station) → Serves ServesLine station [] station []
-  first : (station next after : Station) (line : List ℕ) (lines : List (List ℕ)) (said text : List ℕ)
-      → ServesLine station (line_read line) next said → Serves ServesLine next lines after text
-      → Serves ServesLine station (line ∷ lines) after (said ++ text)
 
 -- The list with the last line of an input, after which no line feed stands. If the input has not ended, or if the line is empty, the list
 -- is empty.
@@ -84,10 +66,6 @@ pub record StopsSaying {Station : Type 0} (ServesLine : Manner Station) (station
 -- byte that shows that the line is too long. The second is for a carriage return. The third is for the space that completes the last item.
 abbrev pub line_room : ℕ
 line_room = input_limit + 3
-
--- How many characters of memory a line needs: one for every two bytes that the line may have.
-abbrev pub chars_room : ℕ
-chars_room = input_limit / 2
 
 -- Memory for a line or for its characters was refused, and nothing was read or written.
 pub record LacksLineRoom (none : NoRoom) (reader reader_after writer writer_after : Stream) : Type 0 where

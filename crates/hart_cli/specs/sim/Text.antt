@@ -4,14 +4,13 @@ use Rattle.std.specs.List.{enumerate_from, flat_map}
 use Rattle.hex.specs.Hex.{encode_upper}
 use Rattle.hart_commands.specs.ReplyData.{content_bytes}
 use Rattle.hart_device.specs.Device.{DeviceState}
-use Rattle.hart_device.specs.image.Image.{image_of}
 use Rattle.hart_master.specs.FaultNumbers.{master_fault_number}
 use Rattle.hart_line.specs.declared.line.report.Outcome.{Outcome}
 use Rattle.hart_line.specs.declared.line.report.Outcome.TheVariants.{Answered, NoReply, Refused, Unfinished}
 use Rattle.hart_line.specs.declared.line.report.Party.{Party}
 use Rattle.hart_line.specs.declared.line.report.Party.TheVariants.{Device, Primary, Secondary}
 use Rattle.hart_line.specs.declared.line.report.Spoken.{Spoken}
-use Rattle.hart_cli.specs.text.Words.{bytes_word, line_of}
+use Rattle.hart_station.specs.Lines.{bytes_word, counter_line, image_line, line_of}
 
 -- The word of a party is P for the primary master, S for the secondary master and D for the device.
 abbrev pub party_word : Party → List ℕ
@@ -39,14 +38,6 @@ outcome_words (Refused fault) = codes "refused" ∷ decimal (master_fault_number
 -- The line of a submission: its number in decimal, and the words of its outcome.
 abbrev pub outcome_line : ℕ × Outcome → List ℕ
 outcome_line numbered = line_of (decimal numbered.0 ∷ outcome_words numbered.1)
-
--- The line of the counter has its value in decimal.
-abbrev pub counter_line : DeviceState → List ℕ
-counter_line device = line_of (codes "counter" ∷ decimal device.counter ∷ [])
-
--- The line of the image has its bytes in upper case hex.
-abbrev pub image_line : DeviceState → List ℕ
-image_line device = line_of (codes "image" ∷ encode_upper (image_of device) ∷ [])
 
 -- The text of `hart sim`: a line for each spoken frame, in order; a line for each submission, numbered from 1; the line of the counter; and
 -- the line of the image.

@@ -3,20 +3,19 @@ ghost use Rattle.std.specs.Prelude.{◌≡◌, ◌<◌, ℕ, IfErr, IfOk, List, 
 ghost use Rattle.std.specs.Option.{option_map};
 ghost use Rattle.hart_device.specs.Device.{DeviceState};
 ghost use Rattle.hart_cli.specs.Answer.{AnswerOutcome, IsAnswer, IsTextFor};
-ghost use Rattle.hart_cli.specs.text.InputChars.{IsWholeTextFault};
+ghost use Rattle.hart_cli.specs.input.InputChars.{IsWholeTextFault};
 ghost use Rattle.hart_cli.specs.input.WholeInput.{WholeOutcome};
 
 use crate::fault::CliFault;
 use crate::image_word::device_of;
+use crate::input::input_chars::read_chars;
 use crate::input::read_whole;
 use crate::output::write_all;
 use crate::stream::{Sink, Source};
-use crate::text::hex_text::HexLine;
-use crate::text::input_chars::read_chars;
-use crate::text::message_line::message_line;
 use hart_device::{Device, ImageRegisters, bench};
 use hart_frame::Char;
 use hart_line::Filling;
+use hart_station::lines::{HexLine, message_line};
 use std::alloc::Global;
 
 /// Reads a delivery as hex items, and writes the bench device's answer as one line of hex, or nothing if the device is silent. If the

@@ -7,10 +7,11 @@ ghost use Rattle.hart_cli.specs.declared.fault.CliFault.{CliFault};
 
 use crate::calls::dump::frame_lines::FrameLines;
 use crate::fault::CliFault;
+use crate::input::PORTION_LEN;
 use crate::input::ahead::{Ahead, NextStep, Open, next_step, read_ahead};
-use crate::input::{INPUT_LIMIT, PORTION_LEN};
 use crate::output::write_all;
 use crate::stream::{Failed, Sink, Source};
+use hart_station::INPUT_LIMIT;
 use hart_text::{Chunk, Digits};
 use std::alloc::Global;
 

@@ -1,38 +1,22 @@
 //! `hart master`: a master that answers each line that it reads.
 ghost use Rattle.std.specs.Prelude.{◌≡◌, ℕ, List};
-ghost use Rattle.hart_cli.specs.master.Line.{LineMaster, ServesMasterLine};
-ghost use Rattle.hart_cli.specs.master.Master.{AreSettings, MasterCallOutcome, MasterOutcome, new_master, usual_limit};
+ghost use Rattle.hart_station.specs.MasterLines.{AreSettings, LineMaster, ServesMasterLine, new_master};
+ghost use Rattle.hart_cli.specs.master.Master.{MasterCallOutcome, MasterOutcome, usual_limit};
 ghost use Rattle.hart_cli.specs.master.MasterWords.{AreInRange};
-ghost use Rattle.hart_cli.specs.master.Promise.{KeepsPromises};
+ghost use Rattle.hart_station.specs.Promise.{KeepsPromises};
 ghost use Rattle.hart_cli.specs.input.Input.{Ending};
-ghost use Rattle.hart_cli.specs.session.Session.{IsServed, Serves};
+ghost use Rattle.hart_cli.specs.session.Session.{IsServed};
+ghost use Rattle.hart_station.specs.Station.{Serves};
 
-use crate::calls::master::line::MasterLines;
 use crate::calls::sim::{PRIMARY_REPLY_LIMIT, SECONDARY_REPLY_LIMIT};
 use crate::fault::CliFault;
 use crate::session::serve_lines;
 use crate::stream::{Sink, Source};
 use hart_line::read_who;
+use hart_station::{MasterLines, MasterSettings};
 use hart_values::MasterId;
 use std::alloc::Global;
 use std::marker::Model;
-
-pub mod ask;
-mod line;
-mod words;
-
-/// The settings of a session of `hart master`.
-#[derive(Clone, Copy, Debug)]
-pub struct MasterSettings {
-    /// Which of the two masters answers the lines.
-    pub who: MasterId,
-    /// How often a request is sent again, at most 15 times.
-    pub retries: u8,
-    /// How many character times a reply is awaited, at least 1.
-    pub reply_limit: u8,
-    /// How many preamble bytes a message begins with, from 5 to 20.
-    pub preambles: u8,
-}
 
 /// The word and the numbers that `hart master` was given.
 #[derive(Drop)]

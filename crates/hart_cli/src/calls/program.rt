@@ -14,7 +14,7 @@ pub mod laws;
 
 use crate::calls::answer::answer;
 use crate::calls::dump::dump;
-use crate::calls::encode::{EncodeWords, encode_text};
+use crate::calls::encode::encode_text;
 use crate::calls::explain::explain;
 use crate::calls::master::master_by_words;
 use crate::calls::request::request;
@@ -25,6 +25,7 @@ use crate::output::write_all;
 use crate::stream::{Sink, Source};
 use clap::ArgMatches;
 use command_line::{Call, call_of, matches_of};
+use hart_station::encode::EncodeWords;
 use std::alloc::Global;
 use std::fmt;
 use std::fmt::Write;

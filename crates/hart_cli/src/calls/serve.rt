@@ -2,20 +2,18 @@
 ghost use Rattle.std.specs.Prelude.{◌≡◌, [], ℕ, List};
 ghost use Rattle.std.specs.Option.{option_map};
 ghost use Rattle.hart_device.specs.Device.{DeviceState};
-ghost use Rattle.hart_cli.specs.serve.Line.{ServesLine};
-ghost use Rattle.hart_cli.specs.serve.Serve.{ServeOutcome};
+ghost use Rattle.hart_station.specs.DeviceLines.{ServesLine};
+ghost use Rattle.hart_cli.specs.Serve.{ServeOutcome};
 ghost use Rattle.hart_cli.specs.session.Session.{IsServed, ServedOutcome};
 ghost use Rattle.hart_cli.specs.input.Input.{Ending};
 
-use crate::calls::serve::line::DeviceLines;
 use crate::fault::CliFault;
 use crate::image_word::device_of;
 use crate::session::serve_lines;
 use crate::stream::{Sink, Source};
 use hart_device::{Device, ImageRegisters};
+use hart_station::DeviceLines;
 use std::alloc::Global;
-
-mod line;
 
 /// Reads lines until the input ends, and writes the answer to each line.
 ///

@@ -2,17 +2,17 @@
 ghost use Rattle.std.specs.Prelude.{◌≡◌, ◌≤◌, ◌↔◌, ◌+◌, ◌++◌, ◌∷◌, [], ℕ, List, IfErr, IfOk, IsTrue, MatchOption, OnOk, codes, length};
 ghost use Rattle.std.specs.Prelude.{take};
 ghost use Rattle.std.specs.Str.Lines.{strip_carriage_return};
-ghost use Rattle.hart_cli.specs.session.Session.{bad_line, line_read, line_room};
+ghost use Rattle.hart_cli.specs.session.Session.{line_room};
+ghost use Rattle.hart_station.specs.Station.{bad_line, line_read};
 ghost use Rattle.hart_cli.specs.session.Server.{BeginsWithPart, HasNoFeed, Keeps, ServesLast, ServesPart, ServesText, most_kept};
 ghost use Rattle.hart_cli.specs.stream.Kept.{HasRoomFor};
 
-use crate::input::INPUT_LIMIT;
 use crate::kept::{Kept, make_room};
 use crate::output::write_all;
-use crate::session::{SaidLine, Station};
 use crate::stream::{Failed, Sink};
-use crate::text::words::push_text;
 use hart_line::{Filling, NoRoom};
+use hart_station::lines::push_text;
+use hart_station::{INPUT_LIMIT, SaidLine, Station};
 use std::alloc::Global;
 use std::marker::Model;
 

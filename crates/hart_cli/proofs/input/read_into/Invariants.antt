@@ -1,6 +1,7 @@
 use Rattle.std.proofs.Common.{◌≡◌, ◌-◌, ◌≤◌, length}
 use Rattle.hart_cli.specs.declared.input.TheConstants.{PORTION_LEN}
-use Rattle.hart_cli.specs.input.Input.{ReadsWell, input_limit, input_room}
+use Rattle.hart_cli.specs.input.Input.{ReadsWell, input_room}
+use Rattle.hart_station.specs.Station.{input_limit}
 use Rattle.hart_cli.proofs.input.read_into.Given as goal
 
 abbrev pub invariant-loop-end : goal.invariant-loop-end

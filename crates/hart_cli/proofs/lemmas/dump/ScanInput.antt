@@ -16,7 +16,8 @@ use Rattle.hart_cli.specs.dump.FrameLines.{HasLines, HearsAll, HearsText, IsWait
 use Rattle.hart_cli.specs.dump.Text.{dump_text}
 use Rattle.hart_cli.specs.input.Ahead.{IsNextStep, ReadsAhead, ended_length}
 use Rattle.hart_cli.specs.input.Decoding.{item_decoding, most_ahead}
-use Rattle.hart_cli.specs.input.Input.{ending_of, input_limit}
+use Rattle.hart_cli.specs.input.Input.{ending_of}
+use Rattle.hart_station.specs.Station.{input_limit}
 use Rattle.hart_cli.specs.input.LiveInput.{IsDecidedText, StopsWriting, WroteInTime}
 use Rattle.hart_cli.specs.stream.Stream.{FailsToWrite, Stream, WritesAll}
 use Rattle.hart_cli.proofs.lemmas.Writes.{FailsToWrite-longer, FailsToWrite-on}

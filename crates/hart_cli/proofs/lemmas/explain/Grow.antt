@@ -17,7 +17,7 @@ use Rattle.hart_cli.specs.explain.Explain.{IsExplanation, decoding_of}
 use Rattle.hart_cli.specs.input.Input.{Ending}
 use Rattle.hart_cli.specs.input.LiveInput.{IsDecidedText}
 use Rattle.hart_cli.proofs.lemmas.input.Raw.{one_raw_input, raw_chars}
-use Rattle.hart_cli.proofs.lemmas.text.Reads.{grows, one_hearing}
+use Rattle.hart_cli.proofs.lemmas.input.Reads.{grows, one_hearing}
 
 -- what was heard has only one text in each style
 pub one_text : (style : Style) (xs ys : List Heard) (a b : List ℕ) → xs ≡ ys → IsTextIn style xs a → IsTextIn style ys b → a ≡ b

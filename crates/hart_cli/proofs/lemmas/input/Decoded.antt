@@ -17,7 +17,7 @@ use Rattle.hart_cli.specs.input.Input.{CameTo, Ending, Left, ReadsPortion, Reads
 use Rattle.hart_cli.specs.input.Decoding.{AreDecodedBy, Decoding, decoding_by, ended_text}
 use Rattle.hart_cli.specs.input.LiveInput.{IsDecidedText, LiveOutcome, ReadsText, StopsSoon, StopsWriting, TextRelation, WroteInTime}
 use Rattle.hart_cli.specs.stream.Stream.{FailsToWrite, Stream, WritesAll}
-use Rattle.hart_cli.specs.text.InputChars.{HasHeardBy, all, bad_hex, decided_bad_hex, failure}
+use Rattle.hart_cli.specs.input.InputChars.{HasHeardBy, all, bad_hex, decided_bad_hex, failure}
 use Rattle.hart_cli.proofs.lemmas.Writes.{in_time_on}
 
 -- if bytes were read, and then more within the limit, all of them were read

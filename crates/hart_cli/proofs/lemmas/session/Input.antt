@@ -9,7 +9,8 @@ use Rattle.hart_cli.specs.declared.input.InputEnd.{InputEnd}
 use Rattle.hart_cli.specs.declared.input.InputEnd.TheVariants.{Ended}
 use Rattle.hart_cli.specs.input.Input.{CameTo, Left, ReadsPortion, ReadsWell, ending_of, most_at_once, stream_limit}
 use Rattle.hart_cli.specs.input.LiveInput.{WroteInTime}
-use Rattle.hart_cli.specs.session.Session.{IsServedSoFar, Manner, Serves, ServesTo, StopsSaying, last_lines}
+use Rattle.hart_cli.specs.session.Session.{IsServedSoFar, ServesTo, StopsSaying, last_lines}
+use Rattle.hart_station.specs.Station.{Manner, Serves}
 use Rattle.hart_cli.specs.session.Server.{FailsInParts, IsCut, Keeps, ServerState, ServesAll, ServesParts, ServesWhole}
 use Rattle.hart_cli.specs.stream.Stream.{FailsToWrite, Stream, WritesAll}
 use Rattle.hart_cli.proofs.lemmas.Writes.{FailsToWrite-on, WritesAll-on}

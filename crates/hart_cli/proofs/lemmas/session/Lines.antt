@@ -4,8 +4,7 @@ use Rattle.std.proofs.Common.{sym, ap, ◌∙◌, arith}
 use Rattle.std.proofs.lemmas.Grind.{common_steps}
 use Rattle.std.proofs.lemmas.Bool.Decides.{nat_tests}
 use Rattle.std.specs.Str.Lines.{strip_carriage_return}
-use Rattle.hart_cli.specs.input.Input.{input_limit}
-use Rattle.hart_cli.specs.session.Session.{line_read}
+use Rattle.hart_station.specs.Station.{input_limit, line_read}
 use Rattle.hart_cli.specs.session.Server.{most_kept}
 
 -- stripping a carriage return removes at most one byte
@@ -58,7 +57,3 @@ reads_alike part false long =
 
 pub reads_kept : (part : List ℕ) → line_read (strip_carriage_return (take most_kept part)) ≡ line_read (strip_carriage_return part)
 reads_kept part = reads_alike part _ refl
-
--- if a line is read, it is read as it is
-pub reads_same : (line read : List ℕ) → line_read line ≡ Some read → read ≡ line
-reads_same line read is = grind (arith, common_steps)

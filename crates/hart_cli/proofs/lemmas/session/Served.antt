@@ -4,7 +4,8 @@ use Rattle.std.proofs.lemmas.Grind.{common_steps}
 use Rattle.std.specs.Str.Lines.{strip_carriage_return}
 use Rattle.hart_cli.specs.input.Input.{CameTo, Ending}
 use Rattle.hart_cli.specs.declared.input.InputEnd.TheVariants.{Ended}
-use Rattle.hart_cli.specs.session.Session.{HasLines, Manner, Serves, first, last_lines, line_read, nothing}
+use Rattle.hart_cli.specs.session.Session.{HasLines, last_lines}
+use Rattle.hart_station.specs.Station.{Manner, Serves, first, line_read, nothing}
 use Rattle.hart_cli.specs.session.Server.{most_kept}
 use Rattle.hart_cli.proofs.lemmas.session.Lines.{all_empty, no_more, reads_kept}
 

@@ -6,7 +6,7 @@ use Rattle.std.proofs.lemmas.List.{map-append, take-append-le}
 use Rattle.std.proofs.lemmas.List.Elements.{All-append}
 use Rattle.std.specs.Str.Lines.{strip_carriage_return}
 use Rattle.hart_cli.specs.declared.stream.Failed.{Failed}
-use Rattle.hart_cli.specs.session.Session.{Manner, first, line_read, nothing}
+use Rattle.hart_station.specs.Station.{Manner, first, line_read, nothing}
 use Rattle.hart_cli.specs.session.Server.{BeginsWithPart, FailsInParts, HasNoFeed, Keeps, ServerState, ServesPart, ServesParts, ServesText}
 use Rattle.hart_cli.specs.session.Server.{ServesWhole, most_kept}
 use Rattle.hart_cli.specs.stream.Kept.{AddsText}

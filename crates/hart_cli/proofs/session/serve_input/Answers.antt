@@ -4,7 +4,7 @@ use Rattle.std.proofs.lemmas.Grind.{common_steps}
 use Rattle.std.proofs.lemmas.List.Elements.{All-nil}
 use Rattle.std.proofs.lemmas.Result.{err_from_is_err_and}
 use Rattle.hart_cli.specs.input.Input.{most_at_once}
-use Rattle.hart_cli.specs.session.Session.{nothing}
+use Rattle.hart_station.specs.Station.{nothing}
 use Rattle.hart_cli.proofs.lemmas.session.Cuts.{cut_rest}
 use Rattle.hart_cli.proofs.lemmas.session.Input.{served_end, served_on, stops_saying}
 use Rattle.hart_cli.proofs.session.serve_input.Goals as goal

@@ -10,7 +10,7 @@ ghost use Rattle.hart_cli.specs.stream.Stream.{Writes};
 use crate::calls::dump::text::push_frame_line;
 use crate::output::write_all;
 use crate::stream::{Failed, Sink};
-use crate::text::pairs::Pairs;
+use hart_explain::Pairs;
 use hart_frame::{Char, next_in_bytes};
 use hart_listen::held;
 use hart_listen::held::Held;

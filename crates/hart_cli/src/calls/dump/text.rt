@@ -5,10 +5,10 @@ ghost use Rattle.hart_frame.specs.scan.View.{found_of};
 ghost use Rattle.hart_explain.specs.Header.{address_word};
 ghost use Rattle.hart_cli.specs.dump.Text.{burst_word, dump_line, kind_word, line_room, master_word};
 
-use crate::text::pairs::Pairs;
-use crate::text::words::{push_hex_word, push_word};
+use hart_explain::Pairs;
 use hart_explain::hex_text::{device_bytes, push_hex};
 use hart_frame::{FoundView, FrameKind};
+use hart_station::lines::{push_hex_word, push_word};
 use hart_values::{Address, ByteList, MasterId};
 use itoa::Buffer;
 

@@ -17,13 +17,13 @@ use super::arguments::{
 };
 use super::help;
 use super::help::{HelpPage, stations, words};
-use crate::calls::encode::EncodeWords;
 use crate::calls::explain::printer::Style;
 use crate::calls::master::MasterWords;
-use crate::calls::request::RequestWords;
 use crate::image_word::ImageWord;
 use clap::{Arg, ArgMatches, Command};
 use hart_frame::{LEAST_PREAMBLES, MOST_PREAMBLES};
+use hart_station::encode::EncodeWords;
+use hart_station::request::RequestWords;
 use std::alloc::{AllocError, Global};
 
 /// The version that `hart --version` shows.

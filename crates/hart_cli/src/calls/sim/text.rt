@@ -2,19 +2,27 @@
 ghost use Rattle.std.specs.Prelude.{◌≡◌, ◌≤◌, ◌<◌, ◌+◌, ◌*◌, ◌∷◌, [], ◌++◌, IfErr, IfOk, OnErr, OnOk, decimal, length};
 ghost use Rattle.std.specs.List.{enumerate_from, flat_map, join_with_byte};
 ghost use Rattle.hart_line.specs.declared.line.report.Outcome.TheVariants.{Answered};
-ghost use Rattle.hart_cli.specs.sim.Text.{IsNeededByDevice, IsNeededByFrame, IsNeededByOutcomes, counter_line, image_line, outcome_line};
+ghost use Rattle.hart_cli.specs.sim.Text.{IsNeededByDevice, IsNeededByFrame, IsNeededByOutcomes, outcome_line};
+ghost use Rattle.hart_station.specs.Lines.{counter_line, image_line};
 ghost use Rattle.hart_cli.specs.sim.Text.{outcome_words, party_word, spoken_line};
 
-use crate::text::device_lines::{push_counter_line, push_image_line};
-use crate::text::hex_text::push_hex;
-use crate::text::pairs::Pairs;
-use crate::text::words::{TextLine, push_hex_word, push_word};
 use hart_commands::Reply;
 use hart_device::{Device, RegisterStore};
+use hart_explain::Pairs;
+use hart_explain::hex_text::push_hex;
 use hart_line::{Filling, Log, NoRoom, Outcome, Party, Spoken};
+use hart_station::lines::{push_counter_line, push_hex_word, push_image_line, push_word};
 use hart_values::{ByteList, Payload};
 use itoa::Buffer;
 use std::alloc::Global;
+
+/// The greatest number of bytes in a line. The longest line is the line of a frame: two places of 20 digits, the three words of
+/// kind, master and burst bit, 10 digits of an address, 6 of the expansion bytes, 3 of the command and 510 of the payload, eight
+/// spaces and a line feed.
+const TEXT_LINE_LEN: usize = 583;
+
+/// The buffer for one line.
+type TextLine = ByteList<TEXT_LINE_LEN>;
 
 /// The number of status bytes at the front of a reply's payload.
 const STATUS_LEN: usize = 2;

@@ -6,7 +6,7 @@ use Rattle.hart_cli.specs.declared.fault.CliFault.{CliFault}
 use Rattle.hart_cli.specs.dump.Dump.{AreDecidedLines, AreFrameLines}
 use Rattle.hart_cli.specs.dump.FrameLines.{AddsRest, HearsAll}
 use Rattle.hart_cli.specs.input.Decoding.{item_decoding, most_ahead}
-use Rattle.hart_cli.specs.input.Input.{input_limit}
+use Rattle.hart_station.specs.Station.{input_limit}
 use Rattle.hart_cli.specs.input.LiveInput.{ReadsText}
 use Rattle.hart_cli.specs.stream.Stream.{Stream, WritesAll}
 use Rattle.hart_cli.proofs.lemmas.Writes.{FailsToWrite-on, WritesAll-on}

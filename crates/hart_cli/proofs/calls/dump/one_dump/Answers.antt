@@ -1,6 +1,6 @@
 use Rattle.std.proofs.Common.{arith}
 use Rattle.hart_frame.proofs.lemmas.Laws.{frames_are_unambiguous-one_list}
-use Rattle.hart_cli.proofs.lemmas.text.InputChars.{one_input}
+use Rattle.hart_cli.proofs.lemmas.input.InputChars.{one_input}
 use Rattle.hart_cli.proofs.calls.dump.one_dump.Goals as goal
 
 pub returns : goal.returns

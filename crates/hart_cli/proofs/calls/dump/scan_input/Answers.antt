@@ -6,7 +6,7 @@ use Rattle.hart_text.specs.Items.{nothing, MayBegin, NoPieceBegins, ReadsUpTo}
 use Rattle.hart_text.proofs.lemmas.Items.{item_laws, NoPieceBegins-nil, ReadsUpTo-few}
 use Rattle.hart_text.proofs.lemmas.Reads.{may_begin-nil}
 use Rattle.hart_cli.specs.dump.Dump.{AreDecidedLines}
-use Rattle.hart_cli.specs.input.Input.{input_limit}
+use Rattle.hart_station.specs.Station.{input_limit}
 use Rattle.hart_cli.specs.input.Decoding.{item_decoding, most_ahead}
 use Rattle.hart_cli.specs.input.LiveInput.{IsDecidedText, WroteInTime}
 use Rattle.hart_cli.proofs.calls.dump.scan_input.Given.{Over}

@@ -1,7 +1,7 @@
 use Rattle.std.proofs.Common.{◌≡◌, ◌≤◌, ◌-◌, ℕ, List, [], None, length}
 use Rattle.hart_text.specs.Items.{MayBegin}
 use Rattle.hart_cli.specs.declared.input.TheConstants.{PORTION_LEN}
-use Rattle.hart_cli.specs.input.Input.{input_limit}
+use Rattle.hart_station.specs.Station.{input_limit}
 use Rattle.hart_cli.specs.stream.Stream.{WritesAll}
 use Rattle.hart_cli.proofs.lemmas.dump.ScanInput.{HeardUpTo}
 use Rattle.hart_cli.proofs.calls.dump.scan_input.Given as goal

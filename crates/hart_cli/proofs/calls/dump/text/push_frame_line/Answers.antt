@@ -3,7 +3,7 @@ use Rattle.hart_frame.specs.heard.Frames.{moved}
 use Rattle.hart_frame.specs.scan.View.{found_of}
 use Rattle.hart_explain.specs.Header.{address_word}
 use Rattle.hart_cli.specs.dump.Text.{burst_word, kind_word, master_word}
-use Rattle.hart_cli.specs.text.Words.{bytes_word, line_of}
+use Rattle.hart_station.specs.Lines.{bytes_word, line_of}
 use Rattle.hart_cli.proofs.calls.dump.text.push_frame_line.Goals as goal
 
 -- nine words that are appended one by one make the line of a frame

@@ -15,13 +15,13 @@ use Rattle.hart_cli.specs.explain.Explanation.{IsTextIn}
 use Rattle.hart_listen.specs.Dated.{explanation, words_of}
 use Rattle.hart_listen.specs.Sightings.{AreSightingsFrom, date_of, undated}
 use Rattle.hart_cli.specs.input.Input.{Ending}
-use Rattle.hart_cli.specs.text.InputChars.{HasChars}
+use Rattle.hart_cli.specs.input.InputChars.{HasChars}
 use Rattle.hart_listen.proofs.lemmas.Dates.{no_date, same_dates}
 use Rattle.hart_listen.proofs.lemmas.Sightings.{moved_none}
 use Rattle.hart_listen.proofs.lemmas.InStretches.{stretches_chars}
-use Rattle.hart_cli.proofs.lemmas.text.InputChars.{one_input}
-use Rattle.hart_cli.proofs.lemmas.text.NoMark.{plain_input}
-use Rattle.hart_cli.proofs.lemmas.text.Reads.{left_more, one_left}
+use Rattle.hart_cli.proofs.lemmas.input.InputChars.{one_input}
+use Rattle.hart_cli.proofs.lemmas.input.NoMark.{plain_input}
+use Rattle.hart_cli.proofs.lemmas.input.Reads.{left_more, one_left}
 use Rattle.hart_cli.proofs.calls.explain.laws.explanations_name_the_messages_of_dump.Goals as goal
 
 -- characters without marks are one stretch

@@ -1,2 +1,0 @@
--- `hart serve`.
-pub mod Lines

@@ -1,9 +1,0 @@
-use Rattle.std.proofs.Common.{◌≡◌, ◌+◌, ◌-◌, ◌*◌, ◌≤◌, ◌++◌, length, take}
-use Rattle.hart_cli.specs.text.HexText.{hex_items}
-use Rattle.hart_cli.proofs.text.hex_text.push_hex_items.Given as goal
-
-abbrev pub invariant-loop-index : goal.invariant-loop-index
-invariant-loop-index g l = record {
-  written : l.line ≡ l.initial.line ++ hex_items (take l.index l.bytes);
-  few : length l.line ≤ length l.initial.line + (3 * l.index - 1);
-}

@@ -1,5 +1,0 @@
-use Rattle.hart_cli.proofs.lemmas.text.InputChars.{one_input}
-use Rattle.hart_cli.proofs.text.input_chars.inputs_are_unambiguous.Goals as goal
-
-pub returns : goal.returns
-returns c = one_input

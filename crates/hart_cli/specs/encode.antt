@@ -1,3 +1,0 @@
--- `hart encode`.
-pub mod MessageWords
-pub mod Encode

@@ -1,2 +1,0 @@
--- `hart request`.
-pub mod Request

@@ -1,3 +1,0 @@
--- `hart serve`.
-pub mod Line
-pub mod Serve

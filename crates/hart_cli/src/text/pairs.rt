@@ -1,2 +1,0 @@
-//! The two digits of each byte, kept in a table.
-pub use hart_explain::Pairs;

@@ -1,0 +1,11 @@
+pub mod FaultText
+pub mod Lines
+pub mod Encode
+pub mod Request
+pub mod Given
+pub mod Station
+pub mod DeviceLines
+pub mod LineWords
+pub mod Ask
+pub mod MasterLines
+pub mod Promise
