@@ -24,9 +24,9 @@ abbrev pub rows_for : Bool → ℕ → List Row
 rows_for true command = reply_rows command
 rows_for false command = request_rows command
 
--- The name of the field of a command at an index, counted from 0, if there is such a field.
+-- The name in words of the field of a command at an index, counted from 0, if there is such a field.
 abbrev pub field_name : Bool → ℕ → ℕ → Option (List ℕ)
-field_name is_reply command index = option_map (λ row. row.name) (slice_get (rows_for is_reply command) index)
+field_name is_reply command index = option_map (λ row. row.words) (slice_get (rows_for is_reply command) index)
 
 -- The number that each kind of field has in C.
 abbrev pub kind_number : FieldKind → ℕ
@@ -83,7 +83,7 @@ pub record StandsAt (is_reply : Bool) (command first : ℕ) (fields : List Field
   pub field : Field
   pub is_row : slice_get (rows_for is_reply command) index ≡ Some row
   pub is_field : slice_get fields index ≡ Some field
-  pub name : field_name is_reply command index ≡ Some field.name
+  pub name : field_name is_reply command index ≡ Some field.words
   pub kind : shown.kind ≡ kind_number row.kind
   pub start : shown.start ≡ first + length (bytes_of (take index fields))
   pub width : IsWidthOf row.kind shown.len

@@ -27,8 +27,8 @@ pub extern "C" fn hart_command_name(command: u8, output: &mut [u8]) -> HartOutco
     write_name(command_name(command), output)
 }
 
-/// Writes the name of a field of a command to the front of `output`, without a final zero byte (HCF_SPEC-127). `hart_read_request` or
-/// `hart_read_reply` writes this field at `index`, counted from 0.
+/// Writes the name in words of a field of a command to the front of `output`, without a final zero byte (HCF_SPEC-127). The field is
+/// the one that `hart_read_request` or `hart_read_reply` writes at `index`, counted from 0.
 ///
 /// # Errors
 ///
@@ -43,7 +43,7 @@ pub extern "C" fn hart_field_name(
 ) -> HartOutcome
     ensures { NameOutcome (field_name is_reply command index) output.old output.new result }
 {
-    let name = rows_for(is_reply, command).get(index).map(|row| row.name);
+    let name = rows_for(is_reply, command).get(index).map(|row| row.words);
     write_name(name, output)
 }
 

@@ -7,3 +7,4 @@ pub mod RequestMade
 pub mod FieldWidths
 pub mod Laws
 pub mod RequestFields
+pub mod WellMade

@@ -93,7 +93,7 @@ commands =
     (registers.Polling ∷ registers.Mode ∷ [])
     ∷ reads 7 "read loop configuration" requests.ReadPolling fields.polling (Saying polling_of)
     ∷ reads 8 "read dynamic variable classifications" requests.ReadClasses fields.classes (Saying contents.Classes)
-    ∷ asks 9 "read device variables with status" (field "device variable codes" (AllBut 0) kinds.Bytes ∷ []) 1 (AskedBy codes_reading)
+    ∷ asks 9 "read device variables with status" (field "device_variable_codes" (AllBut 0) kinds.Bytes ∷ []) 1 (AskedBy codes_reading)
     fields.variables (SaidBy variables_reading)
     ∷ asks 11 "read unique identifier associated with tag" (field "tag" (Exactly 6) kinds.PackedText ∷ []) 6
     (Needing requests.IdentifyByTag) fields.identity (SaidBy identity_reading)
@@ -113,7 +113,7 @@ commands =
     fields.identity (SaidBy identity_reading)
     ∷ writes 22 "write long tag" fields.long_tag 32 (Needing requests.WriteLongTag) (Saying contents.LongTag) (registers.LongTag ∷ [])
     ∷ asks 38 "reset configuration changed flag" fields.counter 2 (AskedBy reset_reading) fields.counter (Saying contents.Counter)
-    ∷ reads 48 "read additional device status" requests.ReadMore (field "additional status" (AllBut 0) kinds.Bytes ∷ [])
+    ∷ reads 48 "read additional device status" requests.ReadMore (field "additional_status" (AllBut 0) kinds.Bytes ∷ [])
     (SaidBy more_reading)
     ∷ []
 

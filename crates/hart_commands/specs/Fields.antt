@@ -1,6 +1,6 @@
 -- The fields of each command's data, and how data are split into fields (HCF_SPEC-127).
 use Prim.Native.String.{String}
-use Rattle.std.specs.Prelude.{ℕ, ◌+◌, ◌-◌, nat_lt, if◌then◌else◌, List, [], ◌∷◌, codes, length, map, take, drop, Option, None, Some}
+use Rattle.std.specs.Prelude.{ℕ, ◌+◌, ◌-◌, ◌==◌, nat_lt, if◌then◌else◌, List, [], ◌∷◌, codes, length, map, take, drop, Option, None, Some}
 use Rattle.std.specs.List.{flat_map}
 use Rattle.std.specs.Option.{option_map, option_map_or}
 use Rattle.hart_commands.specs.declared.fields.FieldKind.{FieldKind}
@@ -14,15 +14,20 @@ use Rattle.hart_commands.specs.declared.fields.FieldSize.TheVariants.{Exactly, A
 unfoldable pub text : String → List ℕ
 text name = codes name
 
--- A row of a table of fields: the name, the size and the kind of a field.
+-- A byte of a name in words: a space for `_` (the byte 95), and otherwise the byte itself.
+abbrev pub spaced : ℕ → ℕ
+spaced code = if code == 95 then 32 else code
+
+-- A row of a table of fields: the name of a field, the same name in words, the size and the kind of the field.
 pub record Row : Type 0 where
   pub name : List ℕ
+  pub words : List ℕ
   pub size : FieldSize
   pub kind : FieldKind
 
 -- The row of a field.
 abbrev pub field : String → FieldSize → FieldKind → Row
-field name size kind = record { name = text name; size = size; kind = kind }
+field name size kind = record { name = text name; words = map spaced (text name); size = size; kind = kind }
 
 -- The least number of bytes of a field: its exact size, or 1 for a size of `AllBut`.
 abbrev pub least : FieldSize → ℕ
@@ -37,74 +42,74 @@ total (row ∷ others) = least row.size + total others
 -- The fields of an identity, of which the first byte is 254 (Commands 0, 11 and 21).
 abbrev pub identity : List Row
 identity =
-    field "first byte" (Exactly 1) Number
-    ∷ field "expanded device type" (Exactly 2) Bytes
-    ∷ field "preamble bytes of a request" (Exactly 1) Number
-    ∷ field "protocol revision" (Exactly 1) Number
-    ∷ field "device revision" (Exactly 1) Number
-    ∷ field "software revision" (Exactly 1) Number
-    ∷ field "hardware revision and signalling code" (Exactly 1) Bytes
+    field "first_byte" (Exactly 1) Number
+    ∷ field "expanded_device_type" (Exactly 2) Bytes
+    ∷ field "preamble_bytes_of_a_request" (Exactly 1) Number
+    ∷ field "protocol_revision" (Exactly 1) Number
+    ∷ field "device_revision" (Exactly 1) Number
+    ∷ field "software_revision" (Exactly 1) Number
+    ∷ field "hardware_revision_and_signalling_code" (Exactly 1) Bytes
     ∷ field "flags" (Exactly 1) Bytes
-    ∷ field "device id" (Exactly 3) Bytes
-    ∷ field "preamble bytes of a response" (Exactly 1) Number
-    ∷ field "greatest number of device variables" (Exactly 1) Number
-    ∷ field "configuration change counter" (Exactly 2) Number
-    ∷ field "extended device status" (Exactly 1) Bytes
+    ∷ field "device_id" (Exactly 3) Bytes
+    ∷ field "preamble_bytes_of_a_response" (Exactly 1) Number
+    ∷ field "greatest_number_of_device_variables" (Exactly 1) Number
+    ∷ field "configuration_change_counter" (Exactly 2) Number
+    ∷ field "extended_device_status" (Exactly 1) Bytes
     ∷ field "manufacturer" (Exactly 2) Number
-    ∷ field "private label distributor" (Exactly 2) Number
-    ∷ field "device profile" (Exactly 1) Number
+    ∷ field "private_label_distributor" (Exactly 2) Number
+    ∷ field "device_profile" (Exactly 1) Number
     ∷ []
 
 -- The fields of the primary variable (Command 1).
 abbrev pub primary : List Row
 primary =
-    field "primary variable unit" (Exactly 1) UnitCode
-    ∷ field "primary variable" (Exactly 4) Float
+    field "primary_variable_unit" (Exactly 1) UnitCode
+    ∷ field "primary_variable" (Exactly 4) Float
     ∷ []
 
 -- The fields of the loop current and the percent of range (Command 2).
 abbrev pub current : List Row
 current =
-    field "loop current" (Exactly 4) Float
-    ∷ field "percent of range" (Exactly 4) Float
+    field "loop_current" (Exactly 4) Float
+    ∷ field "percent_of_range" (Exactly 4) Float
     ∷ []
 
 -- The loop current, and the fields of up to four dynamic variables (Command 3).
 abbrev pub dynamic : List Row
 dynamic =
-    field "loop current" (Exactly 4) Float
-    ∷ field "primary variable unit" (Exactly 1) UnitCode
-    ∷ field "primary variable" (Exactly 4) Float
-    ∷ field "secondary variable unit" (Exactly 1) UnitCode
-    ∷ field "secondary variable" (Exactly 4) Float
-    ∷ field "tertiary variable unit" (Exactly 1) UnitCode
-    ∷ field "tertiary variable" (Exactly 4) Float
-    ∷ field "quaternary variable unit" (Exactly 1) UnitCode
-    ∷ field "quaternary variable" (Exactly 4) Float
+    field "loop_current" (Exactly 4) Float
+    ∷ field "primary_variable_unit" (Exactly 1) UnitCode
+    ∷ field "primary_variable" (Exactly 4) Float
+    ∷ field "secondary_variable_unit" (Exactly 1) UnitCode
+    ∷ field "secondary_variable" (Exactly 4) Float
+    ∷ field "tertiary_variable_unit" (Exactly 1) UnitCode
+    ∷ field "tertiary_variable" (Exactly 4) Float
+    ∷ field "quaternary_variable_unit" (Exactly 1) UnitCode
+    ∷ field "quaternary_variable" (Exactly 4) Float
     ∷ []
 
 -- The polling address and the loop current mode; older masters leave out the mode (Commands 6 and 7).
 abbrev pub polling : List Row
 polling =
-    field "polling address" (Exactly 1) Number
-    ∷ field "loop current mode" (Exactly 1) Number
+    field "polling_address" (Exactly 1) Number
+    ∷ field "loop_current_mode" (Exactly 1) Number
     ∷ []
 
 -- The classification of each dynamic variable (Command 8).
 abbrev pub classes : List Row
 classes =
-    field "primary variable classification" (Exactly 1) Number
-    ∷ field "secondary variable classification" (Exactly 1) Number
-    ∷ field "tertiary variable classification" (Exactly 1) Number
-    ∷ field "quaternary variable classification" (Exactly 1) Number
+    field "primary_variable_classification" (Exactly 1) Number
+    ∷ field "secondary_variable_classification" (Exactly 1) Number
+    ∷ field "tertiary_variable_classification" (Exactly 1) Number
+    ∷ field "quaternary_variable_classification" (Exactly 1) Number
     ∷ []
 
 -- The extended device status, the device variables that were asked for, and their time stamp (Command 9).
 abbrev pub variables : List Row
 variables =
-    field "extended device status" (Exactly 1) Bytes
-    ∷ field "device variables" (AllBut 4) Variables
-    ∷ field "time stamp" (Exactly 4) Bytes
+    field "extended_device_status" (Exactly 1) Bytes
+    ∷ field "device_variables" (AllBut 4) Variables
+    ∷ field "time_stamp" (Exactly 4) Bytes
     ∷ []
 
 -- The message (Commands 12 and 17).
@@ -122,38 +127,38 @@ tag_and_more =
 -- The fields of the sensor (Command 14).
 abbrev pub sensor : List Row
 sensor =
-    field "serial number" (Exactly 3) Bytes
+    field "serial_number" (Exactly 3) Bytes
     ∷ field "unit" (Exactly 1) UnitCode
-    ∷ field "upper limit" (Exactly 4) Float
-    ∷ field "lower limit" (Exactly 4) Float
-    ∷ field "minimum span" (Exactly 4) Float
+    ∷ field "upper_limit" (Exactly 4) Float
+    ∷ field "lower_limit" (Exactly 4) Float
+    ∷ field "minimum_span" (Exactly 4) Float
     ∷ []
 
 -- The fields of the loop current output (Command 15).
 abbrev pub output : List Row
 output =
-    field "alarm code" (Exactly 1) Number
-    ∷ field "transfer function" (Exactly 1) Number
+    field "alarm_code" (Exactly 1) Number
+    ∷ field "transfer_function" (Exactly 1) Number
     ∷ field "unit" (Exactly 1) UnitCode
-    ∷ field "upper range value" (Exactly 4) Float
-    ∷ field "lower range value" (Exactly 4) Float
+    ∷ field "upper_range_value" (Exactly 4) Float
+    ∷ field "lower_range_value" (Exactly 4) Float
     ∷ field "damping" (Exactly 4) Float
-    ∷ field "write protect code" (Exactly 1) Number
-    ∷ field "reserved byte" (Exactly 1) Number
-    ∷ field "channel flags" (Exactly 1) Bytes
+    ∷ field "write_protect_code" (Exactly 1) Number
+    ∷ field "reserved_byte" (Exactly 1) Number
+    ∷ field "channel_flags" (Exactly 1) Bytes
     ∷ []
 
 -- The final assembly number (Commands 16 and 19).
 abbrev pub assembly : List Row
-assembly = field "final assembly number" (Exactly 3) Bytes ∷ []
+assembly = field "final_assembly_number" (Exactly 3) Bytes ∷ []
 
 -- The long tag (Commands 20, 21 and 22).
 abbrev pub long_tag : List Row
-long_tag = field "long tag" (Exactly 32) LatinText ∷ []
+long_tag = field "long_tag" (Exactly 32) LatinText ∷ []
 
 -- The configuration change counter (Command 38).
 abbrev pub counter : List Row
-counter = field "configuration change counter" (Exactly 2) Number ∷ []
+counter = field "configuration_change_counter" (Exactly 2) Number ∷ []
 
 -- How many of the `left` bytes a field takes. `Exactly size` takes `size` bytes. `AllBut after` takes all bytes except the last `after`
 -- bytes, and needs at least one byte before these. If there are too few bytes, the result is `None`.
@@ -165,9 +170,10 @@ size_in (AllBut after) left = if nat_lt after left then Some (left - after) else
 abbrev pub split : FieldSize → List ℕ → Option (List ℕ × List ℕ)
 split size bytes = option_map (λ n. (take n bytes, drop n bytes)) (size_in size (length bytes))
 
--- A field of data has a name, a kind and its bytes.
+-- A field of data has a name, the same name in words, a kind and its bytes.
 pub record Field : Type 0 where
   pub name : List ℕ
+  pub words : List ℕ
   pub kind : FieldKind
   pub bytes : List ℕ
 
@@ -176,7 +182,7 @@ pub record Field : Type 0 where
 abbrev pub fields_of : List Row → List ℕ → List Field
 fields_of [] bytes = []
 fields_of (row ∷ others) bytes =
-    option_map_or (λ parts. record { name = row.name; kind = row.kind; bytes = parts.0 } ∷ fields_of others parts.1)
+    option_map_or (λ parts. record { name = row.name; words = row.words; kind = row.kind; bytes = parts.0 } ∷ fields_of others parts.1)
     (split row.size bytes) []
 
 -- The bytes of each field.
@@ -189,4 +195,4 @@ bytes_of fields = flat_map (λ field. field.bytes) fields
 
 -- The row of a field in Rust, as a `Row` of the definitions.
 abbrev pub seen : FieldRow → Row
-seen row = record { name = row.name.now; size = row.size; kind = row.kind }
+seen row = record { name = row.name.now; words = row.words.now; size = row.size; kind = row.kind }

@@ -14,6 +14,7 @@ pub mod Registers
 pub mod ReplyData
 pub mod Fields
 pub mod FieldWidths
+pub mod WellMade
 pub mod Units
 pub mod Codes
 pub mod StatusBits

@@ -35,8 +35,10 @@ pub enum FieldSize {
 /// A field of data: its name, its size and its kind (HCF_SPEC-127).
 #[derive(Clone, Copy, Debug, PartialEq, Eq)]
 pub struct FieldRow {
-    /// The name.
+    /// The name as an identifier, such as `long_tag`: small letters, digits and `_`.
     pub name: &'static str,
+    /// The same name in words, with a space for each `_`.
+    pub words: &'static str,
     /// The number of bytes.
     pub size: FieldSize,
     /// The kind of value.

@@ -1,6 +1,6 @@
 //! Laws: facts about the definitions, not about code. They are for the crates that use this crate.
 ghost use Rattle.std.specs.Prelude.{◌≡◌, ◌≢◌, ◌==◌, ◌||◌, ◌<◌, ◌≤◌, ◌↔◌, ◌++◌, All, AllPairs, Contains, List, [], ◌∷◌, ℕ, false, true};
-ghost use Rattle.std.specs.Prelude.{Ok, Err, None, Some, IsTrue, IsSome, drop, is_some, length, slice_get, take};
+ghost use Rattle.std.specs.Prelude.{Ok, Err, None, Some, IfSome, IsTrue, IsSome, drop, is_some, length, slice_get, take};
 ghost use Rattle.hart_commands.specs.RequestData.{IsRequest, MayFollow, command_of, is_known, request_data, request_reading};
 ghost use Rattle.hart_commands.specs.Commands.{command_name, reply_rows, request_rows, written_by};
 ghost use Rattle.hart_commands.specs.Fields.{bytes_of, field_bytes, fields_of};
@@ -10,6 +10,7 @@ ghost use Rattle.hart_commands.specs.Parts.{content_bytes, content_parts, reques
 ghost use Rattle.hart_commands.specs.RequestCode.{is_write};
 ghost use Rattle.hart_commands.specs.Registers.{AreValid, Contents, named_in, overwrite_of, overwritten, place_of, registers, set_by};
 ghost use Rattle.hart_commands.specs.Values.{one};
+ghost use Rattle.hart_commands.specs.WellMade.{are_request_rows, are_well_made, is_command_name};
 ghost use Rattle.hart_values.specs.LoopMode.{mode_byte};
 ghost use Rattle.hart_values.specs.declared.loop_mode.LoopMode.{LoopMode};
 ghost use Rattle.hart_commands.specs.declared.register.Register.TheVariants.{Polling, Mode, Message, Tag, Descriptor, Date};
@@ -180,6 +181,17 @@ pub fn fields_are_all_of_the_data()
         → bytes_of (fields_of (request_rows (command_of request)) (request_data request)) ≡ request_data request }
     ensures reply { (reply : Reply) → IsReply reply
         → bytes_of (fields_of (reply_rows reply.command) (content_bytes reply.content)) ≡ content_bytes reply.content }
+{}
+
+/// The table of commands is well made. A field has a name of at most 40 small letters, digits and `_`, which no other field of these data
+/// has, and a size that its kind allows. Data have at most 16 fields. Data of a request have at most seven, and no byte follows them. The
+/// name of a command has at most 64 printable characters. A command needs at most 255 bytes.
+#[tactic(auto, using(crate::proofs::lemmas::WellMade::well_made))]
+pub fn the_table_is_well_made()
+    ensures requests { (command : ℕ) → are_request_rows (request_rows command) ≡ true }
+    ensures replies { (command : ℕ) → are_well_made (reply_rows command) ≡ true }
+    ensures names { (command : ℕ) → IfSome (command_name command) (λ name. is_command_name name ≡ true) }
+    ensures needed { (command : ℕ) → needed_data command ≤ 255 }
 {}
 
 /// The kind of a field limits its number of bytes: 4 for a float, 3 for a date, 1 or 2 for a number, 6, 12 or 24 for a packed text, and 8

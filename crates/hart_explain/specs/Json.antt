@@ -1,6 +1,6 @@
 -- A reading as members of an object of JSON (implementation choice).
 use Prim.Native.String.{String}
-use Rattle.std.specs.Prelude.{◌==◌, if◌then◌else◌, [], ◌∷◌, ◌++◌, ℕ, List, Option, None, Some, codes, map, slice_index, slice_range}
+use Rattle.std.specs.Prelude.{[], ◌∷◌, ◌++◌, ℕ, List, Option, None, Some, codes, map, slice_index, slice_range}
 use Rattle.std.specs.List.{flat_map}
 use Rattle.std.specs.Option.{option_map_or}
 use Rattle.hex.specs.Hex.{encode_upper}
@@ -79,13 +79,9 @@ value_data NotSet = null
 value_data (NoDate bytes) = hex bytes
 value_data (Variables variables) = list_of (map variable_data variables)
 
--- The byte for a character of a name in JSON: `_` for a space, and otherwise the character itself.
-abbrev pub underscored : ℕ → ℕ
-underscored code = if code == 32 then 95 else code
-
 -- The member of a field has the name of the field and its value.
 abbrev pub field_member : Field → Named
-field_member field = record { name = map underscored field.name; value = value_data (held_value field.kind field.bytes) }
+field_member field = record { name = field.name; value = value_data (held_value field.kind field.bytes) }
 
 -- A problem as an object: its reason, and details.
 abbrev pub problem_of : String → List Named → Data

@@ -73,7 +73,7 @@ reading_of_reply command _ = nothing_found None
 
 -- A field in the code, as a `Field` of the definitions.
 abbrev pub seen_field : FieldInCode → Field
-seen_field field = record { name = field.name.now; kind = field.kind; bytes = field.bytes.now }
+seen_field field = record { name = field.name.now; words = field.words.now; kind = field.kind; bytes = field.bytes.now }
 
 -- A reading in the code, as a `Reading` of these definitions.
 abbrev pub seen_reading : ReadingInCode → Reading

@@ -1,14 +1,11 @@
 -- The value of a field, by the kind of the field (implementation choice).
-use Rattle.std.specs.Prelude.{◌+◌, ◌*◌, ◌/◌, ◌%◌, ◌==◌, ◌&&◌, ◌||◌, nat_le, nat_lt, if◌then◌else◌, ◌++◌, [], ◌∷◌, ℕ, Bool, true, List}
-use Rattle.std.specs.Prelude.{codes, decimal, encode_utf8_all, false, length}
+use Rattle.std.specs.Prelude.{◌+◌, ◌*◌, ◌/◌, ◌%◌, ◌==◌, ◌&&◌, ◌||◌, nat_le, nat_lt, if◌then◌else◌, ◌++◌, [], ◌∷◌, ℕ, Bool, List}
+use Rattle.std.specs.Prelude.{codes, decimal, encode_utf8_all, length}
 use Rattle.std.specs.List.{fold, list_all}
 use Rattle.std.specs.Simd.{first_chunks}
 use Rattle.hart_values.specs.hart_date.Calendar.{is_date}
 use Rattle.hart_commands.specs.declared.fields.FieldKind.{FieldKind}
 use Rattle.hart_commands.specs.declared.fields.FieldKind.TheVariants as kinds
-use Rattle.hart_commands.specs.declared.fields.FieldSize.{FieldSize}
-use Rattle.hart_commands.specs.declared.fields.FieldSize.TheVariants.{Exactly, AllBut}
-use Rattle.hart_commands.specs.Fields.{Row}
 use Rattle.hart_explain.specs.declared.value.Value.{Value as ValueInCode}
 use Rattle.hart_explain.specs.declared.value.Value.TheVariants as given
 
@@ -87,27 +84,3 @@ seen_value (given.Day text) = Day text
 seen_value given.NotSet = NotSet
 seen_value (given.NoDate bytes) = NoDate bytes.now
 seen_value (given.Variables variables) = Variables variables.now
-
--- Only private calls use the definitions from here on.
-
--- Whether a field of a kind can have this number of bytes. A number has 1 or 2 bytes, the code of a unit 1, a packed text 6, 12 or 24, a
--- text in ISO Latin-1 at most 32, and a date 3. Any other kind can have any number.
-abbrev pub suits : FieldKind → ℕ → Bool
-suits kinds.Number size = (size == 1) || (size == 2)
-suits kinds.UnitCode size = size == 1
-suits kinds.PackedText size = (size == 6) || (size == 12) || (size == 24)
-suits kinds.LatinText size = nat_le size 32
-suits kinds.Date size = size == 3
-suits _ size = true
-
--- Whether a field of a kind can have every number of bytes that a size allows.
-abbrev pub suits_size : FieldKind → FieldSize → Bool
-suits_size kind (Exactly size) = suits kind size
-suits_size kinds.Bytes (AllBut after) = true
-suits_size kinds.Float (AllBut after) = true
-suits_size kinds.Variables (AllBut after) = true
-suits_size _ (AllBut after) = false
-
--- Whether the kind of each row can have every number of bytes that its size allows.
-abbrev pub sizes_suit : List Row → Bool
-sizes_suit rows = list_all (λ row. suits_size row.kind row.size) rows

@@ -54,9 +54,9 @@ abbrev pub bytes_line : List ℕ → List ℕ → List ℕ
 bytes_line name [] = []
 bytes_line name (byte ∷ bytes) = said_line name (hex_value (byte ∷ bytes))
 
--- The line of a field: its name, and the words of its value.
+-- The line of a field: its name in words, and the words of its value.
 unfoldable pub field_line : Field → List ℕ
-field_line field = said_line field.name (value_words (held_value field.kind field.bytes))
+field_line field = said_line field.words (value_words (held_value field.kind field.bytes))
 
 -- Bytes in hex, or `none` if there are no bytes.
 abbrev pub bytes_or_none : List ℕ → List ℕ

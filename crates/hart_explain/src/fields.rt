@@ -1,8 +1,8 @@
 //! The fields of data, one after another.
 ghost use Rattle.std.specs.Prelude.{◌≡◌, ◌∷◌, [], MatchOption, drop, length, map, true};
 ghost use Rattle.hart_commands.specs.Fields.{bytes_of, fields_of, seen};
+ghost use Rattle.hart_commands.specs.WellMade.{are_well_made};
 ghost use Rattle.hart_explain.specs.Reading.{seen_field};
-ghost use Rattle.hart_explain.specs.Values.{sizes_suit};
 
 use crate::field::Field;
 use hart_commands::FieldRow;
@@ -17,20 +17,21 @@ pub struct Fields<'a> {
 
 impl<'a> Model for Fields<'a> {
     ghost use Rattle.std.specs.Prelude.{◌≡◌, List, map, true};
+    ghost use Rattle.std.specs.List.{list_all};
     ghost use Rattle.hart_commands.specs.Fields.{Field, fields_of, seen};
-    ghost use Rattle.hart_explain.specs.Values.{sizes_suit};
+    ghost use Rattle.hart_commands.specs.WellMade.{is_well_made};
 
     ghost Value = { List Field };
 
     ghost view = { λ fields. fields_of (map seen fields.rows.now) fields.rest.now };
 
-    ghost invariant = { λ fields. sizes_suit (map seen fields.rows.now) ≡ true };
+    ghost invariant = { λ fields. list_all is_well_made (map seen fields.rows.now) ≡ true };
 }
 
 impl<'a> Fields<'a> {
     /// Returns the fields that these rows find in bytes.
     pub(crate) fn new(rows: &'static [FieldRow], bytes: &'a [u8]) -> Fields<'a>
-        requires { sizes_suit (map seen rows.now) ≡ true }
+        requires { are_well_made (map seen rows.now) ≡ true }
         ensures { result ≡ fields_of (map seen rows.now) bytes.now }
     {
         Fields { rows, rest: bytes }
@@ -47,6 +48,7 @@ impl<'a> Fields<'a> {
         self.rest = rest;
         Some(Field {
             name: row.name,
+            words: row.words,
             kind: row.kind,
             bytes,
         })

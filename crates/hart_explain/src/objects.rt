@@ -11,7 +11,7 @@ ghost use Rattle.json.specs.Print.{escape, escape_byte, quoted};
 ghost use Rattle.serde_json.specs.Data.{null};
 ghost use Rattle.serde_json.specs.Written.{compact_text};
 ghost use Rattle.hart_explain.specs.Json.{field_member, further_member, further_members, list_of, member_words, name_or_null, object_of};
-ghost use Rattle.hart_explain.specs.Json.{problem_data, reading_members, underscored, value_data, variable_data};
+ghost use Rattle.hart_explain.specs.Json.{problem_data, reading_members, value_data, variable_data};
 ghost use Rattle.hart_explain.specs.Text.{extended};
 ghost use Rattle.hart_explain.specs.Reading.{seen_field, seen_reading};
 ghost use Rattle.hart_explain.specs.Values.{seen_value};
@@ -111,24 +111,15 @@ fn push_further_fields(text: &mut Text, pairs: &Pairs, fields: Fields<'_>)
     }
 }
 
-/// Adds the member of a field.
+/// Adds the member of a field. JSON escapes no character of its name.
+#[tactic(auto, using(crate::proofs::lemmas::Json::plain_names))]
 fn push_field(text: &mut Text, pairs: &Pairs, field: &Field<'_>)
     ensures { text.new ≡ extended text.old (member_words (field_member (seen_field field.now))) }
 {
     push_text(text, "\"");
-    push_underscored(text, field.name);
+    push_text(text, field.name);
     push_text(text, "\":");
     push_value(text, pairs, &field.value());
-}
-
-/// Adds the characters of a name, with a `_` for each space.
-#[tactic(auto, using(std::proofs::lemmas::Grind::common_steps, crate::proofs::lemmas::Extended::extending))]
-fn push_underscored(text: &mut Text, name: &str)
-    ensures { text.new ≡ extended text.old (escape (map underscored name.now)) }
-{
-    for code in name.as_bytes() {
-        push_escaped_byte(text, if *code == b' ' { b'_' } else { *code });
-    }
 }
 
 /// Adds a value.

@@ -1,10 +1,10 @@
 //! What the data of a message mean.
 ghost use Rattle.std.specs.Prelude.{◌≡◌, ◌≤◌, [], None, Some, drop, length, map, true};
 ghost use Rattle.hart_commands.specs.Fields.{seen};
+ghost use Rattle.hart_commands.specs.WellMade.{are_well_made};
 ghost use Rattle.hart_explain.specs.Reading.{nothing_found, reading_of_reply, reading_of_request, refused, refused_request, replied};
 ghost use Rattle.hart_explain.specs.Reading.{seen_reading, taken};
 ghost use Rattle.hart_explain.specs.Json.{further_members, reading_members};
-ghost use Rattle.hart_explain.specs.Values.{sizes_suit};
 ghost use Rattle.hart_explain.specs.Words.{reading_lines};
 
 use crate::fields::{Fields, after_fields};
@@ -139,7 +139,7 @@ fn nothing_found<'a>(problem: Option<Problem>) -> Reading<'a>
 
 /// Finds the fields in the first `count` bytes, and ignores the bytes after them.
 fn taken<'a>(rows: &'static [FieldRow], count: usize, bytes: &'a [u8]) -> Reading<'a>
-    requires { sizes_suit (map seen rows.now) ≡ true }
+    requires { are_well_made (map seen rows.now) ≡ true }
     ensures { seen_reading result ≡ taken (map seen rows.now) count bytes.now }
 {
     let (taken, ignored) = bytes.split_at(count.min(bytes.len()));
@@ -152,7 +152,7 @@ fn taken<'a>(rows: &'static [FieldRow], count: usize, bytes: &'a [u8]) -> Readin
 
 /// Finds the fields in data that are refused with this code, and ignores the bytes after them.
 fn refused<'a>(rows: &'static [FieldRow], code: u8, bytes: &'a [u8]) -> Reading<'a>
-    requires { sizes_suit (map seen rows.now) ≡ true }
+    requires { are_well_made (map seen rows.now) ≡ true }
     ensures { seen_reading result ≡ refused (map seen rows.now) code bytes.now }
 {
     Reading {

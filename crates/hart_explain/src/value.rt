@@ -2,7 +2,8 @@
 ghost use Rattle.std.specs.Prelude.{◌≡◌, ◌+◌, ◌*◌, ◌/◌, ◌≤◌, ◌++◌, encode_utf8_all, length, true};
 ghost use Rattle.std.specs.List.{list_all};
 ghost use Rattle.hart_values.specs.packed_text.Packing.{IsPackedSize};
-ghost use Rattle.hart_explain.specs.Values.{held_date, day_words, is_printable, held_latin, number_in, seen_value, suits};
+ghost use Rattle.hart_explain.specs.Values.{held_date, day_words, is_printable, held_latin, number_in, seen_value};
+ghost use Rattle.hart_commands.specs.WellMade.{suits};
 ghost use Rattle.hart_explain.specs.Values.{two_digits, unpacked, held_value};
 
 use hart_commands::FieldKind;

@@ -49,7 +49,7 @@ fn push_fields(text: &mut Text, pairs: &Pairs, fields: Fields<'_>)
 fn push_field(text: &mut Text, pairs: &Pairs, field: &Field<'_>)
     ensures { text.new ≡ extended text.old (field_line (seen_field field.now)) }
 {
-    push_name(text, field.name);
+    push_name(text, field.words);
     push_value(text, pairs, &field.value());
     push_byte(text, b'\n');
 }

@@ -1,3 +1,2 @@
 -- Lemmas, each file named after its subject.
-pub mod Names
 pub mod Texts

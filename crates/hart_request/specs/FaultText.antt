@@ -7,9 +7,9 @@ use Rattle.hart_request.specs.declared.fault.FieldFault.TheVariants.{BadCharacte
 use Rattle.hart_request.specs.declared.fault.FieldFault.TheVariants.{NoNumber, NotNamed, Refused, TooLong, UnknownCommand}
 use Rattle.hart_request.specs.declared.fault.FieldFault.TheVariants.{UnknownField}
 
--- The name of the field at a place in the requests of a command. Places count from 0.
+-- The name in words of the field at a place in the requests of a command. Places count from 0.
 abbrev pub name_at : ℕ → ℕ → List ℕ
-name_at command field = option_map_or (λ row. row.name) (slice_get (request_rows command) field) []
+name_at command field = option_map_or (λ row. row.words) (slice_get (request_rows command) field) []
 
 -- The text of the reason why a word of `hart request` is bad. Numbers, such as the place of a character, are in decimal. Places count from
 -- 0.

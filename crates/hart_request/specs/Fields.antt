@@ -1,17 +1,13 @@
 -- The words that give the fields of a request (implementation choice).
-use Rattle.std.specs.Prelude.{ℕ, ◌+◌, ◌==◌, ◌&&◌, ◌||◌, nat_le, nat_lt, not, if◌then◌else◌, Bool, true, false}
-use Rattle.std.specs.Prelude.{List, [], ◌∷◌, ◌++◌, drop, get_or, is_some, length, map, take, Result, Ok, Err, Option, None, Some}
+use Rattle.std.specs.Prelude.{ℕ, ◌+◌, ◌==◌, nat_lt, not, if◌then◌else◌, Bool, false}
+use Rattle.std.specs.Prelude.{List, [], ◌∷◌, ◌++◌, drop, get_or, is_some, length, take, Result, Ok, Err, Option, None, Some}
 use Rattle.std.specs.Prelude.{option_map}
-use Rattle.std.specs.List.{list_all, list_any, position_or_len}
+use Rattle.std.specs.List.{list_any, position_or_len}
 use Rattle.std.specs.Option.{option_map_or, option_or}
 use Rattle.std.specs.Str.{bytes_eq}
 use Rattle.hart_commands.specs.Commands.{command_name, request_rows}
 use Rattle.hart_commands.specs.Fields.{Row}
 use Rattle.hart_commands.specs.RequestData.{Reading, request_reading}
-use Rattle.hart_commands.specs.declared.fields.FieldKind.{FieldKind}
-use Rattle.hart_commands.specs.declared.fields.FieldKind.TheVariants.{Number, UnitCode, PackedText, LatinText, Date}
-use Rattle.hart_commands.specs.declared.fields.FieldSize.{FieldSize}
-use Rattle.hart_commands.specs.declared.fields.FieldSize.TheVariants.{Exactly, AllBut}
 use Rattle.hart_request.specs.declared.fault.BadField.{BadField}
 use Rattle.hart_request.specs.declared.fault.FieldFault.{FieldFault}
 use Rattle.hart_request.specs.declared.fault.FieldFault.TheVariants.{GivenTwice, Missing, NotNamed, Refused, UnknownCommand}
@@ -31,22 +27,14 @@ named word =
 abbrev pub has_name : List ℕ → List ℕ → Bool
 has_name name word = option_map_or (λ parts. bytes_eq parts.0 name) (named word) false
 
--- The byte for a character of a field's name in a word: `_` (the byte 95) for a space, and otherwise the character itself.
-abbrev pub in_word : ℕ → ℕ
-in_word code = if code == 32 then 95 else code
-
--- The name of a field as it is written in a word.
-abbrev pub name_word : List ℕ → List ℕ
-name_word name = map in_word name
-
 -- Whether a word gives a value to the field of a row.
 abbrev pub is_for : Row → List ℕ → Bool
-is_for row word = has_name (name_word row.name) word
+is_for row word = has_name row.name word
 
 -- What is wrong with the name in a word: no field has this name, or an earlier word already gives this field a value.
 abbrev pub fault_of_name : List Row → List (List ℕ) → List ℕ → Option FieldFault
 fault_of_name rows earlier name =
-    if not (list_any (λ row. bytes_eq name (name_word row.name)) rows) then Some UnknownField
+    if not (list_any (λ row. bytes_eq name row.name) rows) then Some UnknownField
     else if list_any (has_name name) earlier then Some GivenTwice
     else None
 
@@ -125,19 +113,3 @@ payload_of command words =
     if is_some (command_name command)
     then unless_bad (first_bad_name rows [] words) (taken_by command (data_of_fields command 0 words rows))
     else Err (record { number = 3; fault = UnknownCommand })
-
--- Only private calls use the definitions from here on.
-
--- Whether a value can be written for a field: the kind of the field allows its size.
-abbrev pub is_writable : FieldKind → FieldSize → Bool
-is_writable kind (AllBut after) = true
-is_writable Number (Exactly size) = (size == 1) || (size == 2)
-is_writable UnitCode (Exactly size) = size == 1
-is_writable PackedText (Exactly size) = (size == 6) || (size == 12) || (size == 24)
-is_writable LatinText (Exactly size) = size == 32
-is_writable Date (Exactly size) = size == 3
-is_writable kind (Exactly size) = nat_le size 32
-
--- There are at most seven fields, and a value can be written for each of them.
-abbrev pub are_writable : List Row → Bool
-are_writable rows = nat_le (length rows) 7 && list_all (λ row. is_writable row.kind row.size) rows

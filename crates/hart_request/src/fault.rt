@@ -77,12 +77,12 @@ impl FieldFault {
     }
 }
 
-/// Returns the name of the field at a place in a command's requests, or no text if there is no such field.
+/// Returns the name in words of the field at a place in a command's requests, or no text if there is no such field.
 fn name_at(command: u8, field: usize) -> &'static str
     ensures { result.now ≡ name_at command field }
 {
     match request_rows(command).get(field) {
-        Some(row) => row.name,
+        Some(row) => row.words,
         None => "",
     }
 }

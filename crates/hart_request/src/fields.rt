@@ -3,8 +3,9 @@ ghost use Rattle.std.specs.Prelude.{◌≡◌, ◌<◌, ◌≤◌, ◌^◌, [], 
 ghost use Rattle.std.specs.List.{list_any};
 ghost use Rattle.std.specs.Str.{bytes_eq};
 ghost use Rattle.hart_commands.specs.Fields.{seen};
-ghost use Rattle.hart_request.specs.Fields.{are_writable, bad_at, data_of_fields, field_value, first_bad_name, has_name, in_word};
-ghost use Rattle.hart_request.specs.Fields.{is_for, is_writable, name_fault, name_word, named, payload_of, place_for, value_in};
+ghost use Rattle.hart_commands.specs.WellMade.{are_request_rows, is_well_made};
+ghost use Rattle.hart_request.specs.Fields.{bad_at, data_of_fields, field_value, first_bad_name, has_name, is_for, name_fault, named};
+ghost use Rattle.hart_request.specs.Fields.{payload_of, place_for, value_in};
 
 use crate::fault::{BadField, FieldFault};
 use crate::values::{FieldBytes, value_of};
@@ -23,6 +24,7 @@ const FIRST_FIELD: usize = 4;
 ///
 /// [`BadField`] for the first of these faults: the command is not known; a word has a bad name; a field of the command is missing or has a
 /// bad value; the command refuses the data.
+#[tactic(auto, using(hart_commands::proofs::lemmas::WellMade::well_made))]
 pub fn payload_of(command: u8, words: &[&str]) -> Result<Payload, BadField>
     ensures { result ≡ payload_of command (map (λ word. word.now) words.now) }
 {
@@ -76,10 +78,10 @@ fn name_fault(rows: &[FieldRow], earlier: &[&str], word: &str) -> Option<FieldFa
 
 /// Returns true if a field has this name.
 fn is_field(rows: &[FieldRow], name: &str) -> bool
-    ensures { result ≡ list_any (λ row. bytes_eq name.now (name_word row.name)) (map seen rows.now) }
+    ensures { result ≡ list_any (λ row. bytes_eq name.now row.name) (map seen rows.now) }
 {
     for row in rows {
-        if is_name(row.name, name) {
+        if name == row.name {
             return true;
         }
     }
@@ -117,7 +119,7 @@ fn named(word: &str) -> Option<(&str, &str)>
 
 /// Returns the data that the words give for the fields of these rows, or the first fault of a field.
 fn data_of_fields(command: u8, rows: &[FieldRow], words: &[&str]) -> Result<Payload, BadField>
-    requires { are_writable (map seen rows.now) ≡ true }
+    requires { are_request_rows (map seen rows.now) ≡ true }
     ensures { result ≡ data_of_fields command 0 (map (λ word. word.now) words.now) (map seen rows.now) }
 {
     let mut data = Payload::new();
@@ -135,7 +137,7 @@ fn field_value(
     row: &FieldRow,
     words: &[&str],
 ) -> Result<FieldBytes, BadField>
-    requires { is_writable row.now.kind row.now.size ≡ true }
+    requires { is_well_made (seen row.now) ≡ true }
     ensures { result ≡ field_value command field (map (λ word. word.now) words.now) (seen row.now) }
 {
     let place = place_for(row, words);
@@ -176,10 +178,7 @@ fn place_for(row: &FieldRow, words: &[&str]) -> usize
 fn is_for(row: &FieldRow, word: &str) -> bool
     ensures { result ≡ is_for (seen row.now) word.now }
 {
-    match named(word) {
-        Some((name, _)) => is_name(row.name, name),
-        None => false,
-    }
+    has_name(word, row.name)
 }
 
 /// Returns the value that a word gives.
@@ -190,27 +189,4 @@ fn value_in(word: &str) -> &str
         Some((_, value)) => value,
         None => "",
     }
-}
-
-/// Returns true if a word is the name of a field, with `_` for each space.
-fn is_name(name: &str, word: &str) -> bool
-    ensures { result ≡ bytes_eq word.now (name_word name.now) }
-{
-    let (name, word) = (name.as_bytes(), word.as_bytes());
-    if name.len() != word.len() {
-        return false;
-    }
-    for (index, code) in name.iter().enumerate() {
-        if in_word(*code) != word[index] {
-            return false;
-        }
-    }
-    true
-}
-
-/// Returns the byte that stands in a word for this byte of a field's name.
-fn in_word(code: u8) -> u8
-    ensures { result ≡ in_word code }
-{
-    if code == b' ' { b'_' } else { code }
 }

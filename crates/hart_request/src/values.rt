@@ -3,7 +3,7 @@ ghost use Rattle.std.specs.Prelude.{◌≡◌, ◌+◌, ◌*◌, ◌/◌, ◌≤
 ghost use Rattle.std.specs.Str.{chars};
 ghost use Rattle.hart_values.specs.hart_date.Calendar.{is_calendar_day};
 ghost use Rattle.hart_values.specs.packed_text.Packing.{IsCharacter, IsPackedSize};
-ghost use Rattle.hart_request.specs.Fields.{is_writable};
+ghost use Rattle.hart_commands.specs.WellMade.{suits, suits_size};
 ghost use Rattle.hart_request.specs.Values.{bytes_value, can_have, date_value, dated, greatest_of, hex_of, has_hex_prefix, latin_value};
 ghost use Rattle.hart_request.specs.Values.{number_bytes, number_up_to, number_value, packed, packed_value, padded, sized};
 ghost use Rattle.hart_request.specs.Values.{text_value, value_of};
@@ -32,7 +32,7 @@ pub type FieldBytes = ByteList<MOST_BYTES>;
 ///
 /// Why the word gives no value for the field.
 pub fn value_of(row: &FieldRow, word: &str) -> Result<FieldBytes, FieldFault>
-    requires { is_writable row.now.kind row.now.size ≡ true }
+    requires { suits_size row.now.kind row.now.size ≡ true }
     ensures { result ≡ value_of row.now.kind row.now.size word.now }
 {
     let FieldSize::Exactly(size) = row.size else {
@@ -98,7 +98,7 @@ fn hex_bytes(word: &str) -> Option<Payload>
 
 /// Returns the number in a word as `size` bytes, one or two, or the fault of the word.
 fn number_value(size: u8, word: &str) -> Result<FieldBytes, FieldFault>
-    requires { is_writable FieldKind.Number (FieldSize.Exactly size) ≡ true }
+    requires { suits FieldKind.Number size ≡ true }
     ensures { result ≡ number_value size word.now }
 {
     let greatest = greatest_of(size);

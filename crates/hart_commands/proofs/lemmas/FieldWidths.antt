@@ -74,9 +74,9 @@ replies_suited = search rules
 of_variables : (groups : ℕ) (bytes : List ℕ) → 0 < groups → groups ≤ 8 → length bytes ≡ 5 + 8 * groups
     → Fit fields.variables bytes
 of_variables groups bytes some few long =
-    let status = field "extended device status" (Exactly 1) Bytes in
-    let values = field "device variables" (AllBut 4) Variables in
-    let stamp : List Row = field "time stamp" (Exactly 4) Bytes ∷ [] in
+    let status = field "extended_device_status" (Exactly 1) Bytes in
+    let values = field "device_variables" (AllBut 4) Variables in
+    let stamp : List Row = field "time_stamp" (Exactly 4) Bytes ∷ [] in
     with_field status (values ∷ stamp) bytes 1 (grind (arith, nat_tests)) (omega (arith, length-take 1 bytes))
     (with_field values stamp (drop 1 bytes) (8 * groups) (grind (arith, nat_tests, length-drop))
     (groups, some, few, grind (arith, common_steps))

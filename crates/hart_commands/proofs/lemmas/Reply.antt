@@ -106,7 +106,7 @@ more [] = tt
 more (byte ∷ bytes) = (
   front 25 (byte ∷ bytes),
   ap (λ xs. Some (More (byte ∷ xs))) (take_all 24 (take 24 bytes) (omega (arith, length-take 24 bytes))),
-  all_left "additional status" Bytes (take 25 (byte ∷ bytes)) (omega arith),
+  all_left "additional_status" Bytes (take 25 (byte ∷ bytes)) (omega arith),
 )
 
 -- whether a row of the table keeps what it reads from replies

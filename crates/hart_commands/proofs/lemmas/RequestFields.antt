@@ -23,7 +23,7 @@ all_left name kind bytes some = grind (arith, common_steps, nat_tests, take_all)
 pub parts_of_request : (request : Request) → IsRequest request
     → field_bytes (fields_of (request_rows (command_of request)) (request_data request)) ≡ request_parts request
 unfolding known
-parts_of_request (ReadVariables list) is = all_left "device variable codes" Bytes list is.0
+parts_of_request (ReadVariables list) is = all_left "device_variable_codes" Bytes list is.0
 parts_of_request (WriteTag tag descriptor date) is = rw (← spelled 6 tag is.0, ← spelled 12 descriptor is.1, ← spelled 3 date is.2.0) refl
 parts_of_request (ResetChanged counter) is = grind arith
 parts_of_request _ is = search (whole, is)

@@ -1,18 +1,18 @@
 -- Readings of at most 255 bytes: how many fields they have, and of which bytes and numbers they are made.
 use Rattle.std.proofs.Common.{◌≡◌, ◌≤◌, ◌<◌, ◌+◌, ◌^◌, ◌==◌, ℕ, zero, suc, Bool, true, List, [], ◌∷◌, Option, None, Some, IfSome}
-use Rattle.std.proofs.Common.{arith, drop, length, nat_le, nat_lt, refl, rules, take}
+use Rattle.std.proofs.Common.{arith, drop, length, nat_lt, refl, take}
 use Rattle.std.proofs.lemmas.Bool.Decides.{nat_tests}
 use Rattle.std.proofs.lemmas.Grind.{common_steps}
 use Rattle.std.proofs.lemmas.List.{get_or-drop, length-drop, length-take}
-use Rattle.std.specs.List.{AllByRecursion, list_all}
 use Rattle.std.specs.Option.{option_map}
-use Rattle.std.specs.Prelude.{◌&&◌, false, if◌then◌else◌, is_some}
+use Rattle.std.specs.Prelude.{false, if◌then◌else◌, is_some}
 use Rattle.hex.specs.Hex.{IsBytes}
-use Rattle.hart_commands.specs.Commands.{Command, command_name, commands, is_known, known, reply_rows, request_rows}
-use Rattle.hart_commands.specs.Fields.{Row, bytes_of, fields_of, text}
+use Rattle.hart_commands.specs.Commands.{command_name, is_known, reply_rows, request_rows}
+use Rattle.hart_commands.specs.Fields.{Row, bytes_of, fields_of}
 use Rattle.hart_commands.specs.NeededData.{needed_data}
-use Rattle.hart_commands.proofs.lemmas.Rows.{of_known}
-use Rattle.hart_explain.specs.Values.{sizes_suit}
+use Rattle.hart_commands.specs.WellMade.{are_well_made}
+use Rattle.hart_commands.proofs.lemmas.WellMade.{the_table_is_well_made-names, the_table_is_well_made-needed}
+use Rattle.hart_explain.proofs.lemmas.Rows.{rows-fit}
 use Rattle.hart_commands.specs.Parts.{content_bytes}
 use Rattle.hart_commands.specs.ReplyData.{content_reading, reply_reading}
 use Rattle.hart_commands.specs.declared.content.ReplyContent.{ReplyContent}
@@ -32,37 +32,8 @@ take_bytes (suc n) (byte ∷ bytes) are (suc i) = take_bytes n bytes (λ k. are 
 pub drop_bytes : (n : ℕ) (bytes : List ℕ) → IsBytes bytes → IsBytes (drop n bytes)
 drop_bytes n bytes are i = grind (arith, get_or-drop n bytes i 0, are (n + i))
 
--- whether the name of a row has at most 40 characters
-abbrev pub is_short : Row → Bool
-is_short row = nat_le (length row.name) 40
-
--- whether there are at most 16 rows, with short names and with sizes that their kinds allow
-abbrev pub rows_fit : List Row → Bool
-rows_fit rows = nat_le (length rows) 16 && list_all is_short rows && sizes_suit rows
-
--- whether a command is small: its rows fit, it needs at most 255 data bytes, and its name has at most 64 characters
-command_fits : Command → Bool
-command_fits command =
-    rows_fit command.request && rows_fit command.reply && nat_le command.needed 255 && nat_le (length command.name) 64
-
-all_fit : AllByRecursion (λ row. command_fits row.command ≡ true) commands
-unfolding command_fits text
-all_fit = search rules
-
-known-fits : (command : ℕ) → IfSome (known command) (λ found. (found.number ≡ command) × (command_fits found ≡ true))
-known-fits command = of_known (λ found. command_fits found ≡ true) command all_fit
-
-pub rows-fit : (command : ℕ) → (rows_fit (request_rows command) ≡ true) × (rows_fit (reply_rows command) ≡ true)
-unfolding command_fits
-rows-fit command = grind (arith, common_steps, nat_tests, known-fits command)
-
-needed-small : (command : ℕ) → needed_data command ≤ 255
-unfolding command_fits
-needed-small command = grind (arith, common_steps, nat_tests, known-fits command)
-
 pub command_name-short : (command : ℕ) → IfSome (command_name command) (λ name. length name ≤ 64)
-unfolding command_fits
-command_name-short command = grind (arith, common_steps, nat_tests, known-fits command)
+command_name-short command = grind (arith, common_steps, nat_tests, the_table_is_well_made-names command)
 
 -- the numbers of a problem are in the range of their type
 abbrev pub InRange : Problem → Type 0
@@ -76,7 +47,7 @@ pub record IsBounded (reading : Reading) : Type 0 where
   pub rows : List Row
   pub part : List ℕ
   pub found : reading.fields ≡ fields_of rows part
-  pub rows_fit : rows_fit rows ≡ true
+  pub rows_fit : are_well_made rows ≡ true
   pub part_bytes : IsBytes part
   pub part_len : length part ≤ 255
   pub ignored_bytes : IsBytes reading.ignored
@@ -100,7 +71,7 @@ nothing-bounded problem range = record {
   range = range;
 }
 
-pub taken-bounded : (rows : List Row) (count : ℕ) (bytes : List ℕ) → rows_fit rows ≡ true → IsBytes bytes → length bytes ≤ 255
+pub taken-bounded : (rows : List Row) (count : ℕ) (bytes : List ℕ) → are_well_made rows ≡ true → IsBytes bytes → length bytes ≤ 255
     → IsBounded (taken rows count bytes)
 taken-bounded rows count bytes fit are few = record {
   rows = rows;
@@ -114,8 +85,8 @@ taken-bounded rows count bytes fit are few = record {
   range = tt;
 }
 
-refused-bounded : (rows : List Row) (code : ℕ) (bytes : List ℕ) → rows_fit rows ≡ true → IsBytes bytes → length bytes ≤ 255 → code < 256
-    → IsBounded (refused rows code bytes)
+refused-bounded : (rows : List Row) (code : ℕ) (bytes : List ℕ) → are_well_made rows ≡ true → IsBytes bytes → length bytes ≤ 255
+    → code < 256 → IsBounded (refused rows code bytes)
 refused-bounded rows code bytes fit are few small = record {
   rows = rows;
   part = bytes;
@@ -136,8 +107,9 @@ one-bounded false one other is are = are
 pub refused-bounded-by : (command code : ℕ) (bytes : List ℕ) → IsBytes bytes → length bytes ≤ 255 → code < 256
     → IsBounded (refused_request command code bytes)
 refused-bounded-by command code bytes are few small =
+    let few_needed : needed_data command < 2 ^ 64 = omega (arith, the_table_is_well_made-needed command) in
     one-bounded (code == 64) _ _ (nothing-bounded (Some UnknownCommand) tt)
-    (one-bounded (code == 5) _ _ (nothing-bounded (Some (TooFew (needed_data command))) (omega (arith, needed-small command)))
+    (one-bounded (code == 5) _ _ (nothing-bounded (Some (TooFew (needed_data command))) few_needed)
     (refused-bounded (request_rows command) code bytes (rows-fit command).0 are few small))
 
 -- the reading of data that are no reply is bounded

@@ -1,14 +1,16 @@
 -- The text of objects and lists of JSON.
 use Rattle.std.proofs.Common.{◌≡◌, ◌<◌, ◌/◌, ◌%◌, ℕ, suc, Bool, true, List, [], ◌∷◌, ◌++◌, append-nil, append_assoc, arith}
 use Rattle.std.proofs.Common.{Fits, get_or, length-append, map, nat_le, refl, w8}
+use Rattle.std.proofs.lemmas.Bool.{and_parts}
 use Rattle.std.proofs.lemmas.Bool.Decides.{nat_tests}
 use Rattle.std.proofs.lemmas.Grind.{common_steps, flat_map-append}
 use Rattle.std.proofs.lemmas.List.Folds.{list_all_at}
-use Rattle.std.specs.List.{flat_map}
+use Rattle.std.specs.List.{flat_map, list_all}
 use Rattle.std.specs.Prelude.{◌&&◌, slice_index}
 use Rattle.hex.specs.Hex.{encode_upper, encode_with, upper_digits}
 use Rattle.json.specs.Print.{escape, escape_byte}
 use Rattle.serde_json.specs.Data.{Data}
+use Rattle.hart_commands.specs.WellMade.{is_name_byte}
 use Rattle.serde_json.specs.Written.{compact_text, items_text, members_text}
 use Rattle.hart_explain.proofs.lemmas.Extended.{also, extended_nothing, extended_on}
 use Rattle.hart_explain.specs.Text.{extended}
@@ -49,6 +51,20 @@ escape-hex (byte ∷ bytes) fits =
     let first : byte < 256 = omega (arith, fits 0) in
     let rest = escape-hex bytes (λ i. fits (suc i)) in
     grind (arith, escape-digit (byte / 16), escape-digit (byte % 16))
+
+-- JSON escapes no byte of a name
+name-byte : (code : ℕ) → is_name_byte code ≡ true → escape_byte code ≡ code ∷ []
+unfolding escape_byte
+name-byte code is = grind (arith, common_steps, nat_tests)
+
+pub escape-name : (name : List ℕ) → list_all is_name_byte name ≡ true → escape name ≡ name
+escape-name [] is = refl
+escape-name (code ∷ name) is =
+    let parts = and_parts (is_name_byte code) (list_all is_name_byte name) is in
+    grind (arith, name-byte code parts.0, escape-name name parts.1)
+
+-- the rules for the member of a field
+pub ruleset plain_names = (extended_on, extended_nothing, append_assoc, append-nil, escape-name)
 
 -- the rules for objects and lists that are printed piece by piece
 pub ruleset said = (extended_on, extended_nothing, append_assoc, append-nil, object-is, items-is)

@@ -1,15 +1,14 @@
 -- The greatest number of characters in the members of a reading, as members of an object of JSON.
 use Rattle.std.proofs.Common.{◌≡◌, ◌≤◌, ◌<◌, ◌+◌, ◌*◌, ◌/◌, ℕ, zero, suc, true, List, [], ◌∷◌, ◌++◌, Option, None, Some, IfSome}
-use Rattle.std.proofs.Common.{ap, arith, codes, drop, length, length-append, map, nat_le, sym, take}
-use Rattle.std.proofs.lemmas.Bool.{and_parts, leb-true}
+use Rattle.std.proofs.Common.{ap, arith, codes, drop, length, length-append, map, sym, take}
 use Rattle.std.proofs.lemmas.Bool.Decides.{nat_tests}
 use Rattle.std.proofs.lemmas.Fmt.{length-decimal-le}
 use Rattle.std.proofs.lemmas.Grind.{common_steps}
-use Rattle.std.proofs.lemmas.List.{length-map, length-take}
+use Rattle.std.proofs.lemmas.List.{length-take}
 use Rattle.std.proofs.lemmas.List.Folds.{flat_map-map}
-use Rattle.std.specs.List.{flat_map, list_all}
+use Rattle.std.specs.List.{flat_map}
 use Rattle.std.specs.Option.{option_map_or}
-use Rattle.std.specs.Prelude.{◌&&◌, encode_utf8_all, slice_index, slice_range}
+use Rattle.std.specs.Prelude.{encode_utf8_all, slice_index, slice_range}
 use Rattle.std.specs.Simd.{first_chunks}
 use Rattle.hex.specs.Hex.{IsBytes}
 use Rattle.hex.proofs.HexLemmas.{length-encode_with}
@@ -19,15 +18,17 @@ use Rattle.serde_json.specs.Written.{compact_text}
 use Rattle.hart_commands.specs.Fields.{text}
 use Rattle.hart_commands.specs.declared.fields.FieldKind.{FieldKind}
 use Rattle.hart_commands.specs.declared.fields.FieldKind.TheVariants as kinds
-use Rattle.hart_explain.specs.Values.{day_words, held_date, held_latin, held_value, number_in, sizes_suit, suits, unpacked}
+use Rattle.hart_commands.specs.WellMade.{suits}
+use Rattle.hart_commands.proofs.lemmas.WellMade.{rows-are}
+use Rattle.hart_explain.specs.Values.{day_words, held_date, held_latin, held_value, number_in, unpacked}
 use Rattle.hart_explain.proofs.lemmas.Json.{escape-hex, further-is, items-is}
 use Rattle.hart_explain.specs.Json.{Named, field_member, further_member, further_members, hex, list_of, name_or_null, named, object_of}
-use Rattle.hart_explain.specs.Json.{problem_data, reading_members, underscored, value_data, variable_data}
+use Rattle.hart_explain.specs.Json.{problem_data, reading_members, value_data, variable_data}
 use Rattle.hart_explain.specs.Reading.{Reading}
 use Rattle.hart_commands.specs.Codes.{code_name}
 use Rattle.hart_explain.specs.declared.reading.Problem.{Problem}
 use Rattle.hart_explain.specs.declared.reading.Problem.TheVariants.{NoReply, NotRead, Refused, TooFew, UnknownCommand}
-use Rattle.hart_explain.proofs.lemmas.Bounded.{InRange, IsBounded, drop_bytes, is_short, take_bytes}
+use Rattle.hart_explain.proofs.lemmas.Bounded.{InRange, IsBounded, drop_bytes, take_bytes}
 use Rattle.hart_explain.proofs.lemmas.Lengths.{TextFits, chunks-fit, code_small, day-fits, decimal_byte, decimal_pair, fields-fit}
 use Rattle.hart_explain.proofs.lemmas.Lengths.{number_small, unpacked-fits, utf8-fits}
 
@@ -114,9 +115,8 @@ value-data-fits kinds.Variables bytes is are =
 member-fits : TextFits (λ field. further_member (field_member field)) 344
 unfolding further_member
 member-fits field fit =
-    let name = escape-fits (map underscored field.name) in
-    let value = value-data-fits field.kind field.bytes fit.1 fit.2 in
-    simp length-append (omega (arith, length-map field.name underscored, name, value, fit.0))
+    let name = escape-fits field.name in
+    let value = value-data-fits field.kind field.bytes fit.2 fit.3 in simp length-append (omega (arith, name, value, fit.0))
 
 -- an object has the characters of its members, a comma for each, and at most two more
 pub object-fits : (members : List Named) → length (compact_text (object_of members)) ≤ length (further_members members) + 2
@@ -127,12 +127,10 @@ object-fits (first ∷ others) =
 
 fields-data-fit : (reading : Reading) → IsBounded reading → length (compact_text (object_of (map field_member reading.fields))) ≤ 9331
 fields-data-fit reading b =
-    let parts = and_parts (nat_le (length b.rows) 16 && list_all is_short b.rows) (sizes_suit b.rows) b.rows_fit in
-    let names = and_parts (nat_le (length b.rows) 16) (list_all is_short b.rows) parts.0 in
-    let count = leb-true (length b.rows) 16 names.0 in
-    let fields = fields-fit (λ field. further_member (field_member field)) 344 member-fits b.rows b.part names.1 parts.1 b.part_bytes in
+    let rows = rows-are b.rows b.rows_fit in
+    let fields = fields-fit (λ field. further_member (field_member field)) 344 member-fits b.rows b.part rows.1 b.part_bytes in
     let all = rw (sym b.found, sym (flat_map-map further_member field_member reading.fields)) at fields in
-    omega (arith, object-fits (map field_member reading.fields), all, count, b.part_len)
+    omega (arith, object-fits (map field_member reading.fields), all, rows.0, b.part_len)
 
 -- the name of a response code is short, as a string or as null
 name-data-fits : (name : Option (List ℕ)) → IfSome name (λ name. length name ≤ 23) → length (compact_text (name_or_null name)) ≤ 140

@@ -2,7 +2,7 @@
 use Rattle.std.proofs.Common.{◌≡◌, ◌≤◌, ◌<◌, ◌+◌, ◌*◌, ◌/◌, ◌%◌, ◌==◌, ℕ, zero, suc, true, List, [], ◌∷◌, ◌++◌, Option, None, Some, IfSome}
 use Rattle.std.proofs.Common.{ap, append_assoc, arith, codes, drop, length, length-append, nat_le, refl, rules, sym, take}
 use Rattle.std.proofs.Math.Nat.{mul-suc}
-use Rattle.std.proofs.lemmas.Bool.{and_parts, leb-true}
+use Rattle.std.proofs.lemmas.Bool.{and_parts}
 use Rattle.std.proofs.lemmas.Bool.Decides.{nat_tests}
 use Rattle.std.proofs.lemmas.Fmt.{length-decimal-le}
 use Rattle.std.proofs.lemmas.Grind.{common_steps}
@@ -10,17 +10,18 @@ use Rattle.std.proofs.lemmas.List.{length-take}
 use Rattle.std.proofs.lemmas.Str.{encodes-append, length-encode}
 use Rattle.std.specs.List.{AllByRecursion, find, flat_map, join_by, list_all}
 use Rattle.std.specs.Option.{option_map, option_map_or}
-use Rattle.std.specs.Prelude.{◌&&◌, decimal, encode_utf8_all}
+use Rattle.std.specs.Prelude.{decimal, encode_utf8_all}
 use Rattle.std.specs.Simd.{first_chunks}
 use Rattle.hex.specs.Hex.{IsBytes}
 use Rattle.hex.proofs.HexLemmas.{length-encode_with}
 use Rattle.hart_commands.specs.Fields.{Field, Row, fields_of, size_in, split, text}
+use Rattle.hart_commands.specs.WellMade.{is_well_made, suits, suits_size}
+use Rattle.hart_commands.proofs.lemmas.WellMade.{IsKnown, row-is, rows-are}
 use Rattle.hart_commands.specs.Units.{UnitRow, unit_name, unit_row, units}
 use Rattle.hart_commands.specs.declared.fields.FieldKind.{FieldKind}
 use Rattle.hart_commands.specs.declared.fields.FieldKind.TheVariants as kinds
 use Rattle.hart_commands.specs.declared.fields.FieldSize.{FieldSize}
-use Rattle.hart_explain.specs.Values.{day_words, held_date, held_latin, held_value, number_in, sizes_suit, suits, suits_size, two_digits}
-use Rattle.hart_explain.specs.Values.{unpacked}
+use Rattle.hart_explain.specs.Values.{day_words, held_date, held_latin, held_value, number_in, two_digits, unpacked}
 use Rattle.hart_explain.proofs.lemmas.Rows.{split-is}
 use Rattle.hart_explain.specs.Reading.{Reading}
 use Rattle.hart_commands.specs.Codes.{code_name}
@@ -28,7 +29,7 @@ use Rattle.hart_explain.specs.declared.reading.Problem.{Problem}
 use Rattle.hart_explain.specs.declared.reading.Problem.TheVariants.{NoReply, NotRead, Refused, TooFew, UnknownCommand}
 use Rattle.hart_explain.specs.Words.{bytes_line, field_line, name_words, problem_lines, reading_lines, hex_value, unit_words, value_words}
 use Rattle.hart_explain.specs.Words.{variable_words}
-use Rattle.hart_explain.proofs.lemmas.Bounded.{InRange, IsBounded, drop_bytes, is_short, take_bytes}
+use Rattle.hart_explain.proofs.lemmas.Bounded.{InRange, IsBounded, drop_bytes, take_bytes}
 
 -- a byte has at most three decimal digits, and a number of two bytes at most five
 pub decimal_byte : (n : ℕ) → n < 256 → length (decimal n) ≤ 3
@@ -162,7 +163,7 @@ value-fits kinds.Variables bytes is are =
 -- a field has a number of bytes that its kind allows
 suits-of : (kind : FieldKind) (size : FieldSize) (bytes field after : List ℕ) → suits_size kind size ≡ true
     → split size bytes ≡ Some (field, after) → suits kind (length field) ≡ true
-suits-of kind size bytes field after suit is = grind (arith, common_steps, split-is size bytes field after is)
+suits-of kind size bytes field after suit is = grind (arith, common_steps, nat_tests, split-is size bytes field after is)
 
 -- if a list is bytes, a field at its front and the rest after it are bytes too
 parts-are : (size : Option ℕ) (bytes field after : List ℕ)
@@ -175,41 +176,43 @@ parts-are (Some n) bytes field after is are =
 
 -- a field that was found in bytes: it has a short name, and bytes in a number that its kind allows
 abbrev pub FieldFits : Field → Type 0
-FieldFits field = (length field.name ≤ 40) × (suits field.kind (length field.bytes) ≡ true) × IsBytes field.bytes
+FieldFits field =
+    (length field.name ≤ 40) × (length field.words ≤ 40) × (suits field.kind (length field.bytes) ≡ true) × IsBytes field.bytes
 
 -- `f` makes a text of each field, with at most 15 characters for each byte of the field, and `each` more
 abbrev pub TextFits : (Field → List ℕ) → ℕ → Type 0
 TextFits f each = (field : Field) → FieldFits field → length (f field) ≤ 15 * length field.bytes + each
 
 found-fit : (f : Field → List ℕ) (each : ℕ) → TextFits f each → (row : Row) (others : List Row) (bytes : List ℕ)
-    → is_short row ≡ true → suits_size row.kind row.size ≡ true → IsBytes bytes
+    → IsKnown row → IsBytes bytes
     → ((after : List ℕ) → IsBytes after → length (flat_map f (fields_of others after)) ≤ 15 * length after + each * length others)
     → (found : Option (List ℕ × List ℕ)) → split row.size bytes ≡ found
-    → length (flat_map f (option_map_or (λ parts. record { name = row.name; kind = row.kind; bytes = parts.0 } ∷ fields_of others parts.1)
-    found []))
+    → length (flat_map f (option_map_or (λ parts. record { name = row.name; words = row.words; kind = row.kind; bytes = parts.0 }
+    ∷ fields_of others parts.1) found []))
     ≤ 15 * length bytes + each * length (row ∷ others)
-found-fit f each fit row others bytes short suit are rest None is = omega arith
-found-fit f each fit row others bytes short suit are rest (Some (field, after)) is =
+found-fit f each fit row others bytes known are rest None is = omega arith
+found-fit f each fit row others bytes known are rest (Some (field, after)) is =
     let parts = parts-are (size_in row.size (length bytes)) bytes field after is are in
     let sizes = split-is row.size bytes field after is in
-    let found : Field = record { name = row.name; kind = row.kind; bytes = field } in
-    let first = fit found (leb-true (length row.name) 40 short, suits-of row.kind row.size bytes field after suit is, parts.0) in
+    let found : Field = record { name = row.name; words = row.words; kind = row.kind; bytes = field } in
+    let words = rw (sym known.words_long) at known.name_short in
+    let first = fit found (known.name_short, words, suits-of row.kind row.size bytes field after known.suits is, parts.0) in
     let later = rest after parts.1 in simp (length-append, mul-suc) (omega (arith, first, later, sizes.1))
 
 -- the texts of all fields in some bytes are short, if the text of each field is
-pub fields-fit : (f : Field → List ℕ) (each : ℕ) → TextFits f each → (rows : List Row) (bytes : List ℕ) → list_all is_short rows ≡ true
-    → sizes_suit rows ≡ true → IsBytes bytes → length (flat_map f (fields_of rows bytes)) ≤ 15 * length bytes + each * length rows
-fields-fit f each fit [] bytes short suit are = omega arith
-fields-fit f each fit (row ∷ others) bytes short suit are =
-    let names = and_parts (is_short row) (list_all is_short others) short in
-    let sizes = and_parts (suits_size row.kind row.size) (sizes_suit others) suit in
-    found-fit f each fit row others bytes names.0 sizes.0 are (λ after bytes. fields-fit f each fit others after names.1 sizes.1 bytes)
+pub fields-fit : (f : Field → List ℕ) (each : ℕ) → TextFits f each → (rows : List Row) (bytes : List ℕ)
+    → list_all is_well_made rows ≡ true → IsBytes bytes
+    → length (flat_map f (fields_of rows bytes)) ≤ 15 * length bytes + each * length rows
+fields-fit f each fit [] bytes made are = omega arith
+fields-fit f each fit (row ∷ others) bytes made are =
+    let parts = and_parts (is_well_made row) (list_all is_well_made others) made in
+    found-fit f each fit row others bytes (row-is row parts.0) are (λ after bytes. fields-fit f each fit others after parts.1 bytes)
     (split row.size bytes) refl
 
 -- the line of a field has at most 15 characters for each byte, and 83 more
 line-fits : TextFits field_line 83
 unfolding field_line
-line-fits field fit = let value = value-fits field.kind field.bytes fit.1 fit.2 in simp length-append (omega (arith, value, fit.0))
+line-fits field fit = let value = value-fits field.kind field.bytes fit.2 fit.3 in simp length-append (omega (arith, value, fit.1))
 
 pub bytes-line-fits : (name bytes : List ℕ) → length (bytes_line name bytes) ≤ length name + 2 * length bytes + 9
 bytes-line-fits name [] = omega arith
@@ -246,13 +249,11 @@ pub words-fit : (command : ℕ) (bytes : List ℕ) (reading : Reading) → comma
     → length (reading_lines command bytes reading) ≤ 6300
 unfolding reading_lines
 words-fit command bytes reading small few b =
-    let parts = and_parts (nat_le (length b.rows) 16 && list_all is_short b.rows) (sizes_suit b.rows) b.rows_fit in
-    let names = and_parts (nat_le (length b.rows) 16) (list_all is_short b.rows) parts.0 in
-    let count = leb-true (length b.rows) 16 names.0 in
-    let fields = rw (sym b.found) at (fields-fit field_line 83 line-fits b.rows b.part names.1 parts.1 b.part_bytes) in
+    let rows = rows-are b.rows b.rows_fit in
+    let fields = rw (sym b.found) at (fields-fit field_line 83 line-fits b.rows b.part rows.1 b.part_bytes) in
     let wrong = wrong-fits command bytes reading.problem small few b.range in
     let ignored = bytes-line-fits (codes "ignored") reading.ignored in
-    simp length-append (omega (arith, fields, wrong, ignored, count, b.part_len, b.ignored_len))
+    simp length-append (omega (arith, fields, wrong, ignored, rows.0, b.part_len, b.ignored_len))
 
 -- the rules for characters that are written one after another, each in at most two bytes
 pub ruleset one_by_one = (common_steps, encodes-append, append_assoc, length-append)

@@ -1,6 +1,6 @@
 //! The names of fields, as worked messages show them.
 use hart_commands::{FieldRow, reply_rows, request_rows};
-use hart_rows::{hold_ok, same, same_bytes};
+use hart_rows::{hold, hold_ok, same, same_bytes};
 use std::test::Fail;
 
 /// Fields of data, each with its name and its bytes.
@@ -92,7 +92,8 @@ fn fall_into(rows: &[FieldRow], data: &[u8], fields: Named) -> Result<bool, Fail
             break;
         };
         let (name, wanted) = *fields.get(found).ok_or("more fields")?;
-        same(&row.name, &name)?;
+        same(&row.words, &name)?;
+        hold(row.name.split('_').eq(name.split(' ')), "name", found)?;
         same_bytes(bytes, wanted)?;
         rest = after;
         found += 1;

@@ -20,7 +20,7 @@ shown_next count place fields after whole these others field is all before =
 row_at : (rows : List FieldRow) (i : ℕ) (d : FieldRow) (bytes field after : List ℕ) → i < length rows
     → split (get_or rows i d).size bytes ≡ Some (field, after)
     → (length field + length after ≡ length bytes) × (fields_of (map seen (drop i rows)) bytes
-    ≡ record { name = (get_or rows i d).name.now; kind = (get_or rows i d).kind; bytes = field }
+    ≡ record { name = (seen (get_or rows i d)).name; words = (seen (get_or rows i d)).words; kind = (get_or rows i d).kind; bytes = field }
     ∷ fields_of (map seen (drop (i + 1) rows)) after)
 row_at rows i d bytes field after within is = (grind (arith, common_steps), grind (arith, common_steps))
 

@@ -28,9 +28,9 @@ field_of from (field ∷ fields) (other ∷ before) zero shown within is = grind
 field_of from (field ∷ fields) (other ∷ before) (suc index) shown within is =
     grind (arith, append_assoc, length-append, field_of (from + length field.bytes) fields before index shown (omega (arith, within)) is)
 
--- each field has a row at the same index, with the field's name and kind
+-- each field has a row at the same index, with the field's words and kind
 row_of : (rows : List Row) (bytes : List ℕ) (index : ℕ) (field : Field) → slice_get (fields_of rows bytes) index ≡ Some field
-    → (row : Row) × (slice_get rows index ≡ Some row) × (field.name ≡ row.name) × (field.kind ≡ row.kind)
+    → (row : Row) × (slice_get rows index ≡ Some row) × (field.words ≡ row.words) × (field.kind ≡ row.kind)
 row_of [] bytes index field is = cc
 row_of (row ∷ rows) bytes zero field is = (row, refl, grind arith, grind arith)
 row_of (row ∷ rows) bytes (suc index) field is = grind (arith, row_of rows)
@@ -57,7 +57,7 @@ stands is_reply command n bytes before code status old new reading index shown w
     let rows = rows_for is_reply command in
     let fields = fields_of rows (take n bytes) in
     let (field, is_field, start, len, kind, parts) = field_of (length before) fields old index shown (grind arith) (grind arith) in
-    let (row, is_row, name, kinds) = row_of rows (take n bytes) index field (cc) in
+    let (row, is_row, words, kinds) = row_of rows (take n bytes) index field (cc) in
     let width : HasWidthOfKind field = width_of fields index field wide is_field in
     let front = before ++ bytes_of (take index fields) in
     let more = bytes_of (drop (suc index) fields) ++ (drop (length (bytes_of fields)) (take n bytes) ++ drop n bytes) in

@@ -15,9 +15,9 @@ use Rattle.hart_c.specs.Data.{NameOutcome}
 use Rattle.hart_c.specs.declared.fault.HartOutcome.{HartOutcome}
 use Rattle.hart_c.proofs.laws.sixteen_fields_and_names_of_64_bytes_have_room.Goals as goal
 
--- the name of a row has at most 64 bytes
+-- the words of a row have at most 64 bytes
 abbrev IsShort : Row → Type 0
-IsShort row = length row.name ≤ 64
+IsShort row = length row.words ≤ 64
 
 -- a command with few fields and short names
 abbrev IsSmall : Command → Type 0

@@ -3,13 +3,13 @@ use Rattle.hex.specs.Hex.{IsBytes}
 use Rattle.hart_commands.specs.Commands.{request_rows}
 use Rattle.hart_explain.specs.Reading.{seen_reading}
 use Rattle.hart_explain.proofs.lemmas.JsonLengths.{members-fit}
-use Rattle.hart_explain.proofs.lemmas.Bounded.{refused-bounded-by, rows-fit, taken-bounded}
+use Rattle.hart_explain.proofs.lemmas.Bounded.{refused-bounded-by, taken-bounded}
 use Rattle.hart_explain.proofs.lemmas.Lengths.{words-fit}
-use Rattle.hart_explain.proofs.lemmas.Rows.{rows-suit}
+use Rattle.hart_explain.proofs.lemmas.Rows.{rows-fit}
 use Rattle.hart_explain.proofs.reading.read_request.Goals as goal
 
 pub taken-requires : goal.taken-requires
-taken-requires c = rw c.request_rows.ensures (rows-suit c.args.command).0
+taken-requires c = rw c.request_rows.ensures (rows-fit c.args.command).0
 
 pub returns-in-Ok-clause-words : goal.returns-in-Ok-clause-words
 returns-in-Ok-clause-words c = λ few.

@@ -1,5 +1,5 @@
-use Rattle.hart_explain.proofs.lemmas.Rows.{rows-suit}
+use Rattle.hart_explain.proofs.lemmas.Rows.{rows-fit}
 use Rattle.hart_explain.proofs.reading.refused_request.Goals as goal
 
 pub refused-requires : goal.refused-requires
-refused-requires c = rw c.request_rows.ensures (rows-suit c.args.command).0
+refused-requires c = rw c.request_rows.ensures (rows-fit c.args.command).0

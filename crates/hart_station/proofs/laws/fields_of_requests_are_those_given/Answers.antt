@@ -1,45 +1,36 @@
-use Rattle.std.proofs.Common.{◌≡◌, ◌<◌, ◌*◌, ◌/◌, ◌==◌, ◌&&◌, ◌++◌, ◌+◌, ◌-◌, if◌then◌else◌, is_some, ℕ, Bool, true, false}
+use Rattle.std.proofs.Common.{◌≡◌, ◌<◌, ◌*◌, ◌/◌, ◌++◌, ◌+◌, ◌-◌, if◌then◌else◌, is_some, ℕ, Bool, true, false}
 use Rattle.std.proofs.Common.{List, [], ◌∷◌, ◌⊎◌, inl, inr, codes, Result, Ok, Err}
-use Rattle.std.proofs.Common.{Option, None, Some, IfSome, arith, ap, append-nil, get_or, length, refl, rules, subst, sym}
+use Rattle.std.proofs.Common.{Option, None, Some, arith, ap, append-nil, get_or, length, nat_le, refl, subst, sym}
 use Rattle.std.proofs.lemmas.Bool.{and_parts, eqb-true}
 use Rattle.std.proofs.lemmas.Bool.Decides.{nat_tests}
 use Rattle.std.proofs.lemmas.Grind.{common_steps}
 use Rattle.std.proofs.lemmas.List.{drop_at, take_at}
-use Rattle.std.specs.List.{AllByRecursion}
+use Rattle.std.specs.List.{list_all}
 use Rattle.std.specs.Option.{option_map_or}
 use Rattle.std.specs.Result.{result_ok}
 use Rattle.std.specs.Str.{bytes_eq, chars}
 use Rattle.jiff.specs.Words.{parse_date}
 use Rattle.hart_values.specs.hart_date.Calendar.{not_set}
-use Rattle.hart_commands.specs.Commands.{command_name, commands, known, request_rows}
-use Rattle.hart_commands.specs.Fields.{Row, bytes_of, fields_of, text}
+use Rattle.hart_commands.specs.Commands.{command_name, request_rows}
+use Rattle.hart_commands.specs.Fields.{Field, Row, bytes_of, fields_of}
+use Rattle.hart_commands.specs.WellMade.{can_precede, is_well_made, leave_nothing, suits, suits_size}
 use Rattle.hart_commands.specs.declared.fields.FieldKind.{FieldKind}
 use Rattle.hart_commands.specs.declared.fields.FieldKind.TheVariants.{Bytes, Number, UnitCode, PackedText, LatinText, Date, Float}
 use Rattle.hart_commands.specs.declared.fields.FieldKind.TheVariants.{Variables}
 use Rattle.hart_commands.specs.declared.fields.FieldSize.{FieldSize}
 use Rattle.hart_commands.specs.declared.fields.FieldSize.TheVariants.{AllBut, Exactly}
-use Rattle.hart_commands.proofs.lemmas.Rows.{of_known}
+use Rattle.hart_commands.proofs.lemmas.WellMade.{request_rows-are, row-is, rows-are, the_table_is_well_made-requests}
 use Rattle.hart_commands.specs.RequestData.{Reading, request_reading}
 use Rattle.hart_request.specs.declared.fault.BadField.{BadField}
 use Rattle.hart_request.specs.declared.fault.FieldFault.{FieldFault}
 use Rattle.hart_request.specs.declared.fault.FieldFault.TheVariants.{NoBytes, NoDate, UnknownCommand}
-use Rattle.hart_request.specs.Fields.{data_of_fields, field_value, first_bad_name, is_writable, joined, payload_of, place_for, taken}
+use Rattle.hart_request.specs.Fields.{data_of_fields, field_value, first_bad_name, joined, payload_of, place_for, taken}
 use Rattle.hart_request.specs.Fields.{taken_by}
 use Rattle.hart_request.specs.Fields.{unless_bad, value_in}
 use Rattle.hart_station.specs.Given.{AreGiven}
 use Rattle.hart_request.specs.Values.{bytes_value, can_have, codes_value, date_value, dated, has_hex_prefix, hex_of}
 use Rattle.hart_request.specs.Values.{latin_value, pack, packed, shown_value, sized, text_value, value_of, year_byte}
 use Rattle.hart_station.proofs.laws.fields_of_requests_are_those_given.Goals as goal
-
--- whether a field of fixed size can be written, or whether a field that takes all bytes that are left is the last one
-abbrev closes : FieldKind → FieldSize → List Row → Bool
-closes kind (Exactly size) rows = is_writable kind (Exactly size)
-closes kind (AllBut after) [] = after == 0
-closes kind (AllBut after) (row ∷ rows) = false
-
-abbrev all_close : List Row → Bool
-all_close [] = true
-all_close (row ∷ rows) = closes row.kind row.size rows && all_close rows
 
 -- packed text has three bytes for every four characters
 length-packed : (groups : ℕ) (text : List ℕ) → length text ≡ 4 * groups → length (packed text) ≡ 3 * groups
@@ -61,7 +52,7 @@ packed_from (Ok given) bytes is = (given, refl, cc)
 packed_from (Err fault) bytes is = absurd cc
 
 -- a packed text has three bytes for each four characters
-length-packed_value : (size : ℕ) (word bytes : List ℕ) → is_writable PackedText (Exactly size) ≡ true
+length-packed_value : (size : ℕ) (word bytes : List ℕ) → suits PackedText size ≡ true
     → pack (text_value (can_have PackedText) (4 * size / 3) word) ≡ Ok bytes → length bytes ≡ size
 length-packed_value size word bytes suits is =
     let from = packed_from (text_value (can_have PackedText) (4 * size / 3) word) bytes is in
@@ -117,7 +108,7 @@ length-date word bytes is =
     ]
 
 -- a value has as many bytes as its field
-length-value : (kind : FieldKind) (size : ℕ) (word bytes : List ℕ) → is_writable kind (Exactly size) ≡ true
+length-value : (kind : FieldKind) (size : ℕ) (word bytes : List ℕ) → suits kind size ≡ true
     → value_of kind (Exactly size) word ≡ Ok bytes → length bytes ≡ size
 length-value Bytes size word bytes suits is = grind (arith, common_steps, nat_tests)
 length-value Number size word bytes suits is = grind (arith, common_steps, nat_tests)
@@ -133,17 +124,23 @@ length-value Variables size word bytes suits is = grind (arith, common_steps, na
 some_codes : (word bytes : List ℕ) → codes_value word ≡ Ok bytes → 0 < length bytes
 some_codes word bytes is = grind (arith, common_steps, nat_tests)
 
+-- a row with these parts, and the field that it has in some bytes
+abbrev a_row : (name shown : List ℕ) → FieldSize → FieldKind → Row
+a_row name shown size kind = record { name = name; words = shown; size = size; kind = kind }
+
+abbrev a_field : (name shown : List ℕ) → FieldKind → List ℕ → Field
+a_field name shown kind bytes = record { name = name; words = shown; kind = kind; bytes = bytes }
+
 -- the first field of some data has the bytes at the front
-first_field : (name : List ℕ) (kind : FieldKind) (size : ℕ) (rows : List Row) (value rest : List ℕ) → length value ≡ size
-    → fields_of (record { name = name; size = Exactly size; kind = kind } ∷ rows) (value ++ rest)
-    ≡ record { name = name; kind = kind; bytes = value } ∷ fields_of rows rest
-first_field name kind size rows value rest is =
+first_field : (name shown : List ℕ) (kind : FieldKind) (size : ℕ) (rows : List Row) (value rest : List ℕ) → length value ≡ size
+    → fields_of (a_row name shown (Exactly size) kind ∷ rows) (value ++ rest) ≡ a_field name shown kind value ∷ fields_of rows rest
+first_field name shown kind size rows value rest is =
     grind (arith, common_steps, nat_tests, take_at value rest size is, drop_at value rest size is)
 
 -- a field that takes all bytes that are left is the only field in these bytes
-last_field : (name : List ℕ) (kind : FieldKind) (value : List ℕ) → 0 < length value
-    → fields_of (record { name = name; size = AllBut 0; kind = kind } ∷ []) value ≡ record { name = name; kind = kind; bytes = value } ∷ []
-last_field name kind value is = grind (arith, common_steps, nat_tests)
+last_field : (name shown : List ℕ) (kind : FieldKind) (value : List ℕ) → 0 < length value
+    → fields_of (a_row name shown (AllBut 0) kind ∷ []) value ≡ a_field name shown kind value ∷ []
+last_field name shown kind value is = grind (arith, common_steps, nat_tests)
 
 -- data that were given are a value and the data after it
 parts : (first rest : Result (List ℕ) BadField) (bytes : List ℕ) → joined first rest ≡ Ok bytes
@@ -162,25 +159,20 @@ abbrev Falls : List (List ℕ) → List Row → List ℕ → Type 0
 Falls words rows bytes = AreGiven words rows (fields_of rows bytes) × (bytes_of (fields_of rows bytes) ≡ bytes)
 
 -- if one more given value is put before data that fall into given fields, they still do
-more : (words : List (List ℕ)) (name : List ℕ) (kind : FieldKind) (size : FieldSize) (rows : List Row) (value later : List ℕ)
-    → closes kind size rows ≡ true
-    → place_for words (record { name = name; size = size; kind = kind }) < length words
-    → value_of kind size (value_in (get_or words (place_for words (record { name = name; size = size; kind = kind })) [])) ≡ Ok value
-    → (rows ≡ [] → later ≡ []) → Falls words rows later
-    → Falls words (record { name = name; size = size; kind = kind } ∷ rows) (value ++ later)
-more words name kind (Exactly size) rows value later suits place is none falls =
-    rw (first_field name kind size rows value later (length-value kind size _ value suits is))
+more : (words : List (List ℕ)) (name shown : List ℕ) (kind : FieldKind) (size : FieldSize) (rows : List Row) (value later : List ℕ)
+    → suits_size kind size ≡ true → can_precede size rows ≡ true
+    → place_for words (a_row name shown size kind) < length words
+    → value_of kind size (value_in (get_or words (place_for words (a_row name shown size kind)) [])) ≡ Ok value
+    → (rows ≡ [] → later ≡ []) → Falls words rows later → Falls words (a_row name shown size kind ∷ rows) (value ++ later)
+more words name shown kind (Exactly size) rows value later suit last place is none falls =
+    let long = length-value kind size _ value (and_parts (suits kind size) (nat_le size 32) suit).0 is in
+    rw (first_field name shown kind size rows value later long)
     ((record { named = refl; meant = refl; given = place; value = is }, falls.0), ap (λ bs. value ++ bs) falls.1)
-more words name kind (AllBut after) [] value later suits place is none falls =
-    rw (
-      none refl,
-      append-nil value,
-      eqb-true after 0 suits,
-      last_field name kind value (some_codes
-          (value_in (get_or words (place_for words (record { name = name; size = AllBut after; kind = kind })) [])) value is),
-    )
+more words name shown kind (AllBut after) [] value later suit last place is none falls =
+    let some = some_codes (value_in (get_or words (place_for words (a_row name shown (AllBut after) kind)) [])) value is in
+    rw (none refl, append-nil value, eqb-true after 0 last, last_field name shown kind value some)
     ((record { named = refl; meant = refl; given = place; value = is }, tt), append-nil value)
-more words name kind (AllBut after) (row ∷ rows) value later suits place is none falls = absurd cc
+more words name shown kind (AllBut after) (row ∷ rows) value later suit last place is none falls = absurd cc
 
 -- nothing comes after the last field
 none_left : (command field : ℕ) (words : List (List ℕ)) (rows : List Row) (later : List ℕ)
@@ -188,27 +180,17 @@ none_left : (command field : ℕ) (words : List (List ℕ)) (rows : List Row) (l
 none_left command field words [] later is none = cc
 none_left command field words (row ∷ rows) later is none = absurd cc
 
-falls : (command field : ℕ) (words : List (List ℕ)) (rows : List Row) (bytes : List ℕ) → all_close rows ≡ true
-    → data_of_fields command field words rows ≡ Ok bytes → Falls words rows bytes
-falls command field words [] bytes close is = (tt, cc)
-falls command field words (row ∷ rows) bytes close is =
+falls : (command field : ℕ) (words : List (List ℕ)) (rows : List Row) (bytes : List ℕ) → list_all is_well_made rows ≡ true
+    → leave_nothing rows ≡ true → data_of_fields command field words rows ≡ Ok bytes → Falls words rows bytes
+falls command field words [] bytes made last is = (tt, cc)
+falls command field words (row ∷ rows) bytes made last is =
     let p = parts (field_value command field words row) (data_of_fields command (field + 1) words rows) bytes is in
     let w = by_word command field words row p.0 p.2 in
-    let c = and_parts (closes row.kind row.size rows) (all_close rows) close in
+    let m = and_parts (is_well_made row) (list_all is_well_made rows) made in
+    let l = and_parts (can_precede row.size rows) (leave_nothing rows) last in
     subst (λ (bs : List ℕ). Falls words (row ∷ rows) bs) (sym p.4)
-    (more words row.name row.kind row.size rows p.0 p.1 c.0 w.0 w.1
-    (none_left command (field + 1) words rows p.1 p.3) (falls command (field + 1) words rows p.1 c.1 p.3))
-
--- the fields of each command can be given
-all_can : AllByRecursion (λ row. all_close row.command.request ≡ true) commands
-unfolding text
-all_can = search rules
-
-can : (command : ℕ) → IfSome (known command) (λ told. (told.number ≡ command) × (all_close told.request ≡ true))
-can command = of_known (λ told. all_close told.request ≡ true) command all_can
-
-rows_close : (command : ℕ) → all_close (request_rows command) ≡ true
-rows_close command = grind (arith, common_steps, nat_tests, can command)
+    (more words row.name row.words row.kind row.size rows p.0 p.1 (row-is row m.0).suits l.0 w.0 w.1
+    (none_left command (field + 1) words rows p.1 p.3) (falls command (field + 1) words rows p.1 m.1 l.1 p.3))
 
 -- the bytes that are taken are the bytes that were read
 read_inv : (bytes taken_bytes : List ℕ) (reading : Reading) → taken bytes reading ≡ Ok taken_bytes → bytes ≡ taken_bytes
@@ -239,12 +221,14 @@ data_are command words bytes is =
     (unless_bad (first_bad_name (request_rows command) [] words) (taken_by command (data_of_fields command 0 words (request_rows command))))
     (record { number = 3; fault = UnknownCommand }) bytes is))
 
+given_fall : (words : List (List ℕ)) (command : ℕ) (bytes : List ℕ) → payload_of command words ≡ Ok bytes
+    → Falls words (request_rows command) bytes
+given_fall words command bytes is =
+    let rows = request_rows-are (request_rows command) (the_table_is_well_made-requests command) in
+    falls command 0 words (request_rows command) bytes (rows-are (request_rows command) rows.0).1 rows.2 (data_are command words bytes is)
+
 pub returns-clause-given : goal.returns-clause-given
-returns-clause-given c words frame is =
-    (falls frame.command 0 words.fields (request_rows frame.command) frame.payload (rows_close frame.command)
-    (data_are frame.command words.fields frame.payload is.payload)).0
+returns-clause-given c words frame is = (given_fall words.fields frame.command frame.payload is.payload).0
 
 pub returns-clause-whole : goal.returns-clause-whole
-returns-clause-whole c words frame is =
-    (falls frame.command 0 words.fields (request_rows frame.command) frame.payload (rows_close frame.command)
-    (data_are frame.command words.fields frame.payload is.payload)).1
+returns-clause-whole c words frame is = (given_fall words.fields frame.command frame.payload is.payload).1
