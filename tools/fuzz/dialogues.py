@@ -4,8 +4,7 @@ from dataclasses import replace
 
 from . import heard, misheard
 from .frames import Frame, body_of, faultless
-from .heard import weighted
-from .payloads import reply_payload, request_data
+from .heard import reply_payload, request_data, weighted
 
 MASTERS = "PS"
 

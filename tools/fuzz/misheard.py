@@ -3,8 +3,7 @@
 from . import heard
 from .commands import COMMANDS, UNKNOWN
 from .frames import PREAMBLE, Char, faultless
-from .heard import weighted
-from .payloads import reply_payload, request_data
+from .heard import reply_payload, request_data, weighted
 
 BESIDE_LISTED = [number for number in UNKNOWN if {number - 1, number + 1} & set(COMMANDS)]
 

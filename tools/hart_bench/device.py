@@ -6,10 +6,9 @@ import time
 
 from .bridge import GAP, DeviceAtPort, Gone, Port
 from .compare import IDENTITY_BYTES, Yardstick
-from .places import program_of, serve_of, vectors_of
 from .tested import Reference, Tested
 from .trial import Trial
-from .vectors import NEW, rows_of
+from .vectors import NEW, program_of, rows_of, serve_of, vectors_of
 from .words import difference_text, summary, write_junit
 
 DELIVERIES = 20000

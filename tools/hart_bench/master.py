@@ -13,9 +13,8 @@ from . import faults
 from .bridge import GAP, Gone, Lines, Port, now
 from .compare import frame_of
 from .faults import BUSY, DELAY, NONE, REPLY, REQUEST
-from .places import program_of, serve_of
 from .requests import message
-from .vectors import NEW, SILENCE
+from .vectors import NEW, SILENCE, program_of, serve_of
 from .watch import Watch
 
 RETRIES = 3

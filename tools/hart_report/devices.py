@@ -2,8 +2,7 @@
 from .html import counted, element, figure, section, table
 from .names import STATES, address_words, rank_of_station, tag_of
 from .stations import MASTERS
-from .trends import number_of
-from .words import date_text, number_text, unit_name
+from .words import date_text, number_of, number_text, unit_name
 
 # The facts that stand below their names, since they may be long.
 LONG = ("Long tag", "Descriptor", "Range")

@@ -7,7 +7,7 @@ import tempfile
 
 from . import checks
 from .edges import REPLY, REQUEST
-from .messages import single
+from .example import single
 from .reading import figures_of, read_page, section_of
 
 loads = json.loads

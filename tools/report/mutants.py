@@ -9,8 +9,8 @@ import random
 import re
 
 from hart_report import capture as captures
+from hart_report.command import page
 from hart_report.lines import BadLine, read_into
-from hart_report.page import page
 
 from .browser import Broken
 from .reading import read_page

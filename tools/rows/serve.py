@@ -1,7 +1,7 @@
 """`hart serve`: lines, and what a device says to each."""
 
 from .answer import REPLY_TO_PRIMARY
-from .device import image
+from .images import image
 
 # Lines, and the answers to them.
 LINES = "counter\nrestart\n\nimage\n"

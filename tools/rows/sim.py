@@ -1,6 +1,6 @@
 """`hart sim`: a script, and its text."""
 
-from .device import sim_text
+from .images import sim_text
 
 # The text of a script without a request.
 AS_IT_WAS = sim_text("")

@@ -3,7 +3,7 @@ use Rattle.std.proofs.Common.{◌≡◌, List, [], ◌∷◌, Err, arith, refl}
 use Rattle.hart_values.specs.declared.{address.Address.Address, master_id.MasterId.MasterId}
 use Rattle.hart_frame.specs.declared.scan.first.LoneFrame.{LoneFrame}
 use Rattle.hart_frame.specs.declared.scan.first.LoneFrame.TheVariants.{NoFrame, Alone, Several}
-use Rattle.hart_frame.specs.{heard.Character.Character, heard.Delivery.IsLone, wire.FrameParts.FrameParts}
+use Rattle.hart_frame.specs.{heard.Character.Character, heard.Frames.IsLone, wire.FrameParts.FrameParts}
 use Rattle.hart_frame.proofs.lemmas.Laws.{frames_are_unambiguous-one_list}
 use Rattle.hart_commands.specs.declared.{reply.Reply.Reply, request.Request.Request}
 use Rattle.hart_master.specs.Acceptance.{IsAccepted, IsReplyTo}

@@ -8,7 +8,7 @@ use Rattle.hart_device.specs.Identity.{AreIdentityParts, IsIdentityFault}
 use Rattle.hart_device.specs.declared.fault.DeviceFault.{DeviceFault}
 use Rattle.hart_device.specs.declared.fault.DeviceFault.TheVariants.{BadLength}
 use Rattle.hart_device.specs.declared.identity_parts.IdentityParts.{IdentityParts}
-use Rattle.hart_device.specs.image.Image.{IsImageFault, image_of}
+use Rattle.hart_device.specs.Image.{IsImageFault, image_of}
 use Rattle.hart_device.proofs.lemmas.Laws.{devices_are_kept_whole-either_version, images_have_no_fault, devices_are_kept_whole-image}
 use Rattle.hart_c.specs.Device.{IsKept, device_of, image_in, state_checks}
 use Rattle.hart_c.specs.Faults.{needs_or}

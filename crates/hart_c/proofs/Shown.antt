@@ -1,21 +1,46 @@
--- Frames that are found can be written, and how many of them a delivery has.
-use Rattle.std.proofs.Common.{◌≡◌, ◌≤◌, ◌<◌, ◌++◌, Bool, true, false, ℕ, List, [], ◌∷◌, All, arith, drop, length, map, refl}
-use Rattle.std.proofs.Common.{slice_index_or, take}
-use Rattle.std.proofs.Common.{inl, inr, length-drop}
-use Rattle.std.proofs.lemmas.List.{append-nil, length-take-le}
+-- A message has its frame alone, and one explanation. Frames that are found can be written, and how many of them a delivery has.
+use Rattle.std.proofs.Common.{◌≡◌, true, ℕ, List, [], ◌∷◌, Option, None, Some, ap, arith, length, refl, ◌≤◌, ◌<◌, ◌++◌, Bool, false, All}
+use Rattle.std.proofs.Common.{drop, map, slice_index_or, take, inl, inr, length-drop}
+use Rattle.std.proofs.lemmas.List.{append-nil, length-map, length-take-le}
+use Rattle.hart_frame.specs.declared.heard.found.Found.{Found}
+use Rattle.hart_frame.specs.declared.scan.view.FoundView.{FoundView}
+use Rattle.hart_frame.specs.heard.{Character.Character, Character.faultless, Frames.IsLone}
+use Rattle.hart_frame.specs.scan.Next.{AreNext, frames_of}
+use Rattle.hart_frame.specs.wire.{FrameParts.FrameParts, Message.IsMessage, View.found_of, View.parts_of}
+use Rattle.hart_frame.proofs.lemmas.Laws.{every_list_has_frames, frames_are_unambiguous-one_list, messages_have_their_frame_alone-message}
+use Rattle.hart_frame.proofs.lemmas.Laws.{next_frames_are_all-all}
 use Rattle.std.proofs.lemmas.List.Elements.{All-cons, All-head, All-nil}
 use Rattle.hart_values.specs.address.AddressBytes.{IsAddressBytes}
 use Rattle.hart_values.specs.declared.master_id.MasterId.{MasterId}
-use Rattle.hart_frame.specs.declared.heard.found.Found.{Found}
 use Rattle.hart_frame.specs.declared.scan.first.LoneFrame.TheVariants.{Several}
-use Rattle.hart_frame.specs.heard.{Character.Character, Delivery.IsLone}
 use Rattle.hart_frame.specs.heard.Frames.{AreFrames, first}
 use Rattle.hart_frame.specs.wire.Body.{IsBody}
-use Rattle.hart_frame.proofs.lemmas.Laws.{every_list_has_frames, next_frames_are_all-all}
 use Rattle.hart_c.specs.Find.{Finds, HaveFaultBits, SearchOutcome, char_of}
 use Rattle.hart_c.specs.Messages.{IsFrame, IsInRange}
 use Rattle.hart_c.specs.Numbers.{IsTidy, address_of, found_in, frame_in}
 use Rattle.hart_c.specs.declared.{find.HartChar.HartChar, find.HartSearch.HartSearch, frame.HartFrame.HartFrame}
+
+-- if characters have one frame, the first frame that is found in them is this frame
+pub found_alone : (chars : List Character) (view : Option FoundView) (used : ℕ) (found : Found) → AreFrames chars 0 (found ∷ [])
+    → AreNext chars true 0 (frames_of view) used → (view ≡ None → used ≡ length chars)
+    → (it : FoundView) × (view ≡ Some it) × (found_of it ≡ found)
+found_alone chars None used found alone next all =
+    let none : AreFrames chars 0 [] = next_frames_are_all-all chars true [] (rw (all refl) at next) in
+    absurd (grind (arith, frames_are_unambiguous-one_list chars 0 [] (found ∷ []) none alone))
+found_alone chars (Some it) used found alone next all =
+    let rest = every_list_has_frames chars used in
+    let are : AreFrames chars 0 (found_of it ∷ rest.0) =
+    rw append-nil at (next.leads [] rest.0 (λ closed. refl) (rw append-nil rest.1)) in
+    (it, refl, grind (arith, frames_are_unambiguous-one_list chars 0 (found_of it ∷ rest.0) (found ∷ []) are alone))
+
+-- the first frame that is found in a message is the frame of the message
+pub found_in_message : (frame : FrameParts) (bytes : List ℕ) (view : Option FoundView) (used : ℕ) → IsMessage frame 5 bytes
+    → AreNext (faultless bytes) true 0 (frames_of view) used → (view ≡ None → used ≡ length bytes)
+    → (it : FoundView) × (view ≡ Some it) × (parts_of it.frame ≡ frame)
+found_in_message frame bytes view used is next all =
+    let alone = messages_have_their_frame_alone-message frame 5 bytes (omega arith) is in
+    let found = found_alone (faultless bytes) view used _ alone next (λ none. rw length-map (all none)) in
+    (found.0, found.1, ap (λ (found : Found). found.frame) found.2)
 
 -- if a body has the address that some numbers describe, these numbers are in range
 in_range : (is_unique : Bool) (frame : HartFrame) (master : MasterId) (burst : Bool) (bytes : List ℕ)

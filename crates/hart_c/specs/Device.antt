@@ -3,11 +3,11 @@ use Rattle.std.specs.Prelude.{◌≡◌, ◌≤◌, ◌+◌, ◌-◌, ◌%◌, �
 use Rattle.std.specs.Prelude.{slice_index, slice_set, take}
 use Rattle.hart_frame.specs.{wire.FrameParts.FrameParts, wire.Message.IsMessage}
 use Rattle.hart_commands.specs.Registers.{AreValid}
-use Rattle.hart_device.specs.image.Image.{IsImageFault, IsImageOf, image_of}
+use Rattle.hart_device.specs.Image.{IsImageFault, IsImageOf, image_of}
 use Rattle.hart_device.specs.answer.Delivery.{Brings, Brought, answer_to, state_after_delivery}
 use Rattle.hart_device.specs.declared.fault.DeviceFault.TheVariants.{BadField, BadLength}
 use Rattle.hart_device.specs.Identity.{AreIdentityParts, IsIdentityFault}
-use Rattle.hart_device.specs.{Device.DeviceState, Device.new_device, declared.process.Process.Process, registers.Values.values_of}
+use Rattle.hart_device.specs.{Device.DeviceState, Device.new_device, declared.process.Process.Process, Registers.values_of}
 use Rattle.hart_device.specs.{declared.identity_parts.IdentityParts.IdentityParts, declared.registers.values.RegisterValues.RegisterValues}
 use Rattle.hart_c.specs.declared.fault.Fault.TheVariants.{BadVariables, Device, NoRoom}
 use Rattle.hart_c.specs.Faults.{AllPass, Check, Outcome, needs, needs_or, outcome_of, refused_if}

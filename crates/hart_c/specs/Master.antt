@@ -1,7 +1,7 @@
 -- Which deliveries a caller in C accepts as a reply, in the same way as a master (implementation choice).
 use Rattle.std.specs.Prelude.{◌≡◌, ◌++◌, true, false, List, Option, Some, Result, Ok, Err, map}
 use Rattle.hart_values.specs.declared.{address.Address.Address, address.Address.TheVariants.Unique, master_id.MasterId.MasterId}
-use Rattle.hart_frame.specs.heard.{Character.Character, Delivery.IsLone}
+use Rattle.hart_frame.specs.heard.{Character.Character, Frames.IsLone}
 use Rattle.hart_frame.specs.declared.scan.first.LoneFrame.{LoneFrame}
 use Rattle.hart_frame.specs.declared.scan.first.LoneFrame.TheVariants.{NoFrame, Alone, Several}
 use Rattle.hart_commands.specs.{declared.reply.Reply.Reply, declared.request.Request.Request}

@@ -1,4 +1,5 @@
-//! Reading the frame at the front of some bytes.
+//! Reading the frame at the front of some bytes, and their check byte.
+ghost use Rattle.hart_frame.specs.wire.Parity.{IsCheckByte};
 ghost use Rattle.hart_c.specs.Messages.{DecodeOutcome};
 
 use crate::fault::{HART_OK, HartOutcome, number_of_frame_fault};
@@ -29,4 +30,12 @@ pub extern "C" fn hart_decode(bytes: &[u8], frame: &mut HartFrame) -> HartOutcom
             fault: number_of_frame_fault(fault),
         },
     }
+}
+
+/// Returns the check byte of these bytes, which is the exclusive or of all of them.
+#[unsafe(no_mangle)]
+pub extern "C" fn hart_check_byte(bytes: &[u8]) -> u8
+    ensures { IsCheckByte bytes.now result }
+{
+    hart_frame::check_byte(bytes)
 }

@@ -1,6 +1,6 @@
 //! A frame, as a C struct of 288 bytes. It is used to find, read and write frames. A call writes only the bytes that the frame needs.
 ghost use Rattle.std.specs.Prelude.{◌≡◌, ◌≤◌, false, length, true};
-ghost use Rattle.hart_frame.specs.scan.View.{found_of};
+ghost use Rattle.hart_frame.specs.wire.View.{found_of};
 ghost use Rattle.hart_c.specs.Numbers.{IsTidy, address_of, found_in, frame_in};
 
 use hart_frame::{FoundView, Frame, FrameKind};

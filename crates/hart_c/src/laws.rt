@@ -205,6 +205,7 @@ pub fn calls_have_one_outcome()
 }
 
 /// A kept master has at most one state. So each call continues with the master that the previous call left.
+#[tactic(auto, using(crate::proofs::Masters::one_master))]
 pub fn masters_are_kept()
     ensures { (master : HartMaster) (state other : FrameMasterState) → IsMaster master state → IsMaster master other → state ≡ other }
 {}

@@ -5,7 +5,8 @@
 //! and none allocates: the caller keeps what lasts from call to call. The result of each call depends only on its arguments.
 #![tactic(auto)]
 
-mod check;
+ghost use Rattle.std.specs.Prelude.{◌≡◌};
+
 mod data;
 mod decode;
 mod device;
@@ -28,11 +29,9 @@ mod process;
 mod reason;
 mod registers;
 mod reply;
-mod version;
 
-pub use check::hart_check_byte;
 pub use data::{HartField, HartReading, hart_read_reply, hart_read_request};
-pub use decode::hart_decode;
+pub use decode::{hart_check_byte, hart_decode};
 pub use device::{HartDevice, hart_hear, hart_new_device, hart_restart};
 pub use encode::hart_encode;
 pub use explain::hart_explain;
@@ -55,4 +54,14 @@ pub use packed_text::{hart_pack_text, hart_unpack_text};
 pub use process::{HartOutput, HartProcess, HartSensor, HartVariable, hart_bench_process};
 pub use registers::{HartRegisters, hart_bench_registers};
 pub use reply::{HartMatch, hart_accept_frame, hart_matches};
-pub use version::hart_version;
+
+/// The version: major, minor and patch, a byte each.
+pub const HART_VERSION: u32 = 0x000100;
+
+/// Returns the version of the library.
+#[unsafe(no_mangle)]
+pub extern "C" fn hart_version() -> u32
+    ensures { result ≡ 0x000100 }
+{
+    HART_VERSION
+}

@@ -2,7 +2,7 @@
 ghost use Rattle.std.specs.Prelude.{◌≡◌, ◌<◌, ◌↔◌, IsSome, IfSome};
 ghost use Rattle.hart_commands.specs.Registers.{AreValid};
 ghost use Rattle.hart_device.specs.Bench.{bench_values};
-ghost use Rattle.hart_device.specs.registers.Values.{values_of};
+ghost use Rattle.hart_device.specs.Registers.{values_of};
 ghost use Rattle.hart_c.specs.Numbers.{contents_of};
 
 use hart_device::{RegisterValues, bench};

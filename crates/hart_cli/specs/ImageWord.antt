@@ -4,7 +4,7 @@ use Rattle.std.specs.List.{AllPass}
 use Rattle.hex.specs.Hex.{decode_of, is_hex_digit}
 use Rattle.hart_device.specs.Bench.{bench_identity, bench_values}
 use Rattle.hart_device.specs.Device.{DeviceState, for_both, new_device}
-use Rattle.hart_device.specs.image.Image.{IsImageOf, IsImageFault}
+use Rattle.hart_device.specs.Image.{IsImageOf, IsImageFault}
 use Rattle.hart_cli.specs.declared.fault.CliFault.{CliFault}
 use Rattle.hart_cli.specs.declared.fault.CliFault.TheVariants.{BadHex, Image, Memory}
 use Rattle.hart_cli.specs.stream.Stream.{Stream}

@@ -1,5 +1,5 @@
 -- Lemmas, in the same modules as the code and the definitions.
-pub mod registers
-pub mod image
 pub mod answer
 pub mod Laws
+pub mod Image
+pub mod Registers

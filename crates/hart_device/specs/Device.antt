@@ -8,7 +8,7 @@ use Rattle.hart_commands.specs.Registers.{AreValid, Contents, Overwrite, overwri
 use Rattle.hart_device.specs.declared.identity_parts.IdentityParts.{IdentityParts}
 use Rattle.hart_device.specs.declared.registers.values.RegisterValues.{RegisterValues}
 use Rattle.hart_device.specs.Identity.{AreIdentityParts}
-use Rattle.hart_device.specs.registers.Values.{values_of}
+use Rattle.hart_device.specs.Registers.{values_of}
 
 -- The state of a device: its identity, register contents, configuration change counter, write protection, and two bits for each
 -- master. The configuration-changed bit of a master is set if the configuration has changed since this master last reset the bit.

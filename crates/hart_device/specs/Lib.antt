@@ -1,10 +1,9 @@
 pub mod Bits
 pub mod Identity
 pub mod Process
-pub mod registers
 pub mod Device
 pub mod FaultText
-pub mod FaultNumbers
 pub mod answer
-pub mod image
 pub mod Bench
+pub mod Image
+pub mod Registers

@@ -4,7 +4,7 @@ ghost use Rattle.hart_values.specs.EachMaster.{of_master};
 ghost use Rattle.hart_frame.specs.wire.Message.{IsPreambleCount};
 ghost use Rattle.hart_commands.specs.Registers.{AreValid};
 ghost use Rattle.hart_device.specs.Device.{IsDevice, for_both, new_device, restarted};
-ghost use Rattle.hart_device.specs.registers.Values.{values_of};
+ghost use Rattle.hart_device.specs.Registers.{values_of};
 
 use crate::{Identity, RegisterStore, RegisterValues};
 use hart_values::{EachMaster, MasterId};

@@ -1,6 +1,5 @@
 ghost use Rattle.std.specs.Prelude.{◌≡◌, ◌≤◌, length, Some};
-ghost use Rattle.hart_device.specs.FaultNumbers.{device_fault_number};
-ghost use Rattle.hart_device.specs.FaultText.{device_fault_text};
+ghost use Rattle.hart_device.specs.FaultText.{device_fault_number, device_fault_text};
 
 use std::fmt;
 use thiserror::Error;

@@ -2,11 +2,10 @@
 ghost use Rattle.std.specs.Prelude.{◌≡◌, ◌<◌, ◌^◌, ◌↔◌, ◌⊎◌, [], ◌∷◌, ◌++◌, false, IsOk, IfOk, IfErr, IfSome, IfNone, length, slice_index};
 ghost use Rattle.hart_commands.specs.Registers.{AreValid};
 ghost use Rattle.hart_device.specs.Identity.{two_bytes};
-ghost use Rattle.hart_device.specs.registers.Ranges.{HoldsInvalid, contents_in};
-ghost use Rattle.hart_device.specs.registers.Values.{values_of};
-ghost use Rattle.hart_device.specs.image.Image.{IsImage, IsImageOf, IsImageFault, flags_of, image_of};
+ghost use Rattle.hart_device.specs.Registers.{HoldsInvalid, contents_in, values_of};
+ghost use Rattle.hart_device.specs.Image.{IsImage, IsImageOf, IsImageFault, flags_of, image_of};
 ghost use Rattle.hart_device.specs.Device.{for_both};
-ghost use Rattle.hart_device.specs.image.ImageParts.{state_with};
+ghost use Rattle.hart_device.specs.Image.{state_with};
 ghost use Rattle.hart_device.specs.declared.identity_parts.IdentityParts.{IdentityParts};
 
 use crate::image::flags::Flags;

@@ -28,7 +28,7 @@ ghost use Rattle.hart_device.specs.declared.process.Process.{Process};
 ghost use Rattle.hart_device.specs.Device.{DeviceState, IsDevice, Nothing, Executes, Resets, restarted};
 ghost use Rattle.hart_device.specs.Identity.{own_numbers};
 ghost use Rattle.hart_device.specs.Process.{IsFloat, IsProcess};
-ghost use Rattle.hart_device.specs.image.Image.{IsImageOf, IsImageFault, image_of};
+ghost use Rattle.hart_device.specs.Image.{IsImageOf, IsImageFault, image_of};
 
 use crate::Process;
 use hart_commands::SensorContent;
@@ -203,7 +203,7 @@ pub fn images_have_no_fault()
 {}
 
 /// Bytes have at most one image fault.
-#[tactic(auto, using(crate::proofs::lemmas::image::Image::one_fault))]
+#[tactic(auto, using(crate::proofs::lemmas::Image::one_fault))]
 pub fn bytes_have_one_image_fault()
     ensures { (image : List ℕ) (fault other : DeviceFault)
         → IsImageFault image fault → IsImageFault image other → fault ≡ other }

@@ -2,7 +2,7 @@
 ghost use Rattle.std.specs.Prelude.{◌≡◌, length, unwrap_or};
 ghost use Rattle.hart_commands.specs.Registers.{AreValid, Contents, bytes_in, named_in, size_of};
 ghost use Rattle.hart_commands.specs.declared.register.Register.{Register};
-ghost use Rattle.hart_device.specs.registers.Values.{values_of};
+ghost use Rattle.hart_device.specs.Registers.{values_of};
 
 use crate::RegisterValues;
 use hart_commands::{Overwrite, Register};

@@ -22,11 +22,11 @@ pub use Rattle.hart_frame.specs.heard.Place.{HasFrameAt, StandsIn}
 pub use Rattle.hart_frame.specs.heard.Sighting.{AreSightings, Message, Missed, Seen, header_at, miss_in_whole, missed_at, sightings}
 pub use Rattle.hart_frame.specs.heard.Sighting.{two_begin_in_body, missed, moved_seen, seen_miss, SeesOn}
 unfoldable pub use Rattle.hart_frame.specs.heard.Sighting.{has_two_preambles}
-pub use Rattle.hart_frame.specs.heard.Start.{IsStart}
-pub use Rattle.hart_frame.specs.private.Body.{bytes_of}
+pub use Rattle.hart_frame.specs.heard.Place.{IsStart}
+pub use Rattle.hart_frame.specs.private.Prefix.{bytes_of}
 pub use Rattle.hart_frame.specs.private.Buffer.{IsSound, IsWaiting, held_bytes, scan_of}
 pub use Rattle.hart_frame.specs.private.Candidate.{BeginWithNone, IsWhole, MayBegin}
-pub use Rattle.hart_frame.specs.private.Chunk.{Hears}
+pub use Rattle.hart_frame.specs.private.Buffer.{Hears}
 pub use Rattle.hart_frame.specs.private.Decision.{GivesSpan, HoldsWhole, IsHeldOpen, IsHeldSearched}
 pub use Rattle.hart_frame.specs.private.Layout.{Describes, layout_length}
 pub use Rattle.hart_frame.specs.private.Miss.{IsOfBytes, cut_miss, wrong_miss}
@@ -44,7 +44,7 @@ pub use Rattle.hart_frame.specs.wire.Header.{HeaderParts}
 unfoldable pub use Rattle.hart_frame.specs.wire.Header.{header_in}
 pub use Rattle.hart_frame.specs.wire.Layout.{body_length, byte_count_place, command_place, delimiter_in, byte_count_in, address_end}
 pub use Rattle.hart_frame.specs.wire.Parity.{HasEvenParity, IsCheckByte}
-pub use Rattle.hart_frame.specs.wire.PlainAddress.{address_of}
+pub use Rattle.hart_frame.specs.wire.View.{address_of}
 pub use Rattle.hart_frame.specs.wire.Refusal.{HasCheckByte, IsRefusedWith, IsTruncated, HasDelimiter, HasGoodByteCount}
 pub use Rattle.hart_frame.specs.wire.View.{parts_of}
 pub use Rattle.hart_values.specs.address.AddressBytes.{IsAddressBytes, first_byte}

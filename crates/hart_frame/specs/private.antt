@@ -2,13 +2,10 @@
 pub mod Layout
 pub mod Prefix
 pub mod Sums
-pub mod Body
 pub mod Miss
 pub mod Address
 pub mod Candidate
 pub mod Search
 pub mod Sighting
 pub mod Buffer
-pub mod Chunk
 pub mod Decision
-pub mod First

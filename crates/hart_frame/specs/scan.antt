@@ -2,6 +2,5 @@
 pub mod Scanner
 pub mod Chunk
 pub mod Streamed
-pub mod View
 pub mod Next
 pub mod Sighting

@@ -9,4 +9,3 @@ pub mod Refusal
 pub mod Message
 pub mod FaultNumbers
 pub mod View
-pub mod PlainAddress

@@ -1,8 +1,14 @@
--- The texts of the faults of a script (implementation choice).
+-- The numbers and the texts of the faults of a script (implementation choice).
 use Rattle.std.specs.Prelude.{ℕ, ◌++◌, List, [], Option, None, Some, codes, decimal}
-use Rattle.hart_line.specs.Types.{Leg, LineFault, Undetected, Memory, BadLine}
+use Rattle.hart_line.specs.Types.{LineFault, Undetected, Memory, BadLine, Leg}
 use Rattle.hart_line.specs.declared.fault.Leg.TheVariants.{Up, Down, Noise}
 use Rattle.hart_line.specs.declared.fault_text.FaultText.{FaultText}
+
+-- The number of each fault.
+abbrev pub line_fault_number : LineFault → ℕ
+line_fault_number (Undetected event leg) = 1
+line_fault_number (Memory none) = 2
+line_fault_number (BadLine number) = 3
 
 -- The word for each leg of an event. It is `up` for the leg from a master to the device, `down` for the leg from the device to the masters,
 -- and `noise` for noise.

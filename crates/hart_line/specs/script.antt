@@ -1,5 +1,4 @@
 -- Scripts: texts in which each line stands for an event.
 pub mod Items
 pub mod Words
-pub mod Lines
 pub mod Rows

@@ -3,10 +3,8 @@ pub mod Spoken
 pub mod Damage
 pub mod World
 pub mod Step
-pub mod Led
 pub mod Needs
 pub mod Faults
 pub mod Noted
-pub mod Executions
 pub mod Promises
 pub mod Kept

@@ -1,6 +1,5 @@
 ghost use Rattle.std.specs.Prelude.{◌≡◌, ◌≤◌, length, Some};
-ghost use Rattle.hart_line.specs.FaultNumbers.{line_fault_number};
-ghost use Rattle.hart_line.specs.FaultText.{joined, leg_word, line_fault_text};
+ghost use Rattle.hart_line.specs.FaultText.{line_fault_number, joined, leg_word, line_fault_text};
 
 use crate::{FaultText, NoRoom};
 use std::fmt;

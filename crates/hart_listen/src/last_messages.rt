@@ -3,8 +3,7 @@ ghost use Rattle.std.specs.Prelude.{◌≡◌, ◌+◌, ◌-◌, ◌<◌, ◌++�
 ghost use Rattle.hart_frame.specs.heard.Frames.{moved};
 ghost use Rattle.hart_frame.specs.heard.Sighting.{Message, moved_seen};
 ghost use Rattle.hart_frame.specs.scan.Sighting.{seen_of};
-ghost use Rattle.hart_frame.specs.scan.View.{found_of};
-ghost use Rattle.hart_frame.specs.wire.View.{parts_of};
+ghost use Rattle.hart_frame.specs.wire.View.{found_of, parts_of};
 ghost use Rattle.hart_values.specs.declared.master_id.MasterId.{MasterId};
 ghost use Rattle.hart_listen.specs.Before.{AreAlike, answered, asks_device, before_of, has_faults, is_busy};
 ghost use Rattle.hart_listen.specs.Before.{leaves_open, repeats, replies_to};

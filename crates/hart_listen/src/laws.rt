@@ -8,7 +8,7 @@ ghost use Rattle.hart_frame.specs.heard.InTheWay.{HasBodyAt, HasFaultsAt, IsInTh
 ghost use Rattle.hart_frame.specs.heard.Place.{HasFrameUpTo};
 ghost use Rattle.hart_frame.specs.heard.Sighting.{Message, Missed, Seen, header_at, miss_in_whole, missed, seen_miss, sightings};
 ghost use Rattle.hart_frame.specs.heard.Sighting.{two_begin_in_body};
-ghost use Rattle.hart_frame.specs.heard.Start.{IsStart};
+ghost use Rattle.hart_frame.specs.heard.Place.{IsStart};
 ghost use Rattle.hart_frame.specs.declared.heard.found.Found.{Found};
 ghost use Rattle.hart_frame.specs.declared.heard.miss.Miss.{Miss};
 ghost use Rattle.hart_frame.specs.declared.heard.miss.Miss.TheVariants.{BadCheck, Faulty, Missing, OnePreamble};

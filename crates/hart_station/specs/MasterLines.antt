@@ -8,7 +8,7 @@ use Rattle.hart_frame.specs.heard.Character.{Character}
 use Rattle.hart_frame.specs.heard.Frames.{AreFrames}
 use Rattle.hart_frame.specs.wire.FrameParts.{FrameParts}
 use Rattle.hart_frame.specs.wire.Message.{IsPreambleCount}
-use Rattle.hart_line.specs.script.Lines.{is_blank}
+use Rattle.hart_text.specs.Lines.{is_blank}
 use Rattle.hart_master.specs.FrameMaster.{BringsReply, FrameMasterState, IsRequestFrame, event_ticked, frame_due, hand_received}
 use Rattle.hart_master.specs.FrameMaster.{hand_sent, hand_submitted, hand_ticked, result_submitted, sendings_of}
 use Rattle.hart_master.specs.declared.fault.MasterFault.{MasterFault}

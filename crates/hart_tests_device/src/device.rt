@@ -1,7 +1,9 @@
+use crate::chars::chars_of_items;
 use hart_commands::Request;
 use hart_device::*;
-use hart_frame::{Char, Frame, Payload};
-use hart_rows::{has_text, hold_ok, hold_same, same, same_bytes, same_if_any};
+use hart_frame::{Char, Frame, Message, Payload, encode};
+use hart_rows::worked::{HEARD, OWN, OwnRow, REPLY, REQUEST};
+use hart_rows::{bytes_of_text, has_text, hold_ok, hold_same, same, same_bytes, same_if_any};
 use hart_values::{Address, MasterId, ResponseCode};
 use images::image_fault;
 use std::alloc::Global;
@@ -11,7 +13,6 @@ mod addresses;
 mod deliveries;
 mod images;
 mod restarts;
-mod worked;
 mod writes;
 
 /// The payload of the reply to Command 0 while the configuration change counter is 0.
@@ -268,6 +269,38 @@ fn what_is_refused_has_a_fault(rt: HostRuntime) -> Result<(), Fail> {
     assert!(rt; Identity::new(PARTS).is_ok());
     for (number, row) in REFUSED.iter().enumerate() {
         hold_ok(&rt, has_its_fault(rt.alloc(), row), "row", number)?;
+    }
+    Ok(())
+}
+
+/// Whether a new bench device that hears `heard` replies with this message, and has this counter afterwards.
+fn replies_so(alloc: Global, heard: &str, reply: &str, counter: u16) -> Result<bool, Fail> {
+    let delivery = chars_of_items(alloc, heard)?;
+    let want = bytes_of_text(alloc, reply)?;
+    let mut device = bench_device();
+    let mut message = Message::new();
+    if let Some(answer) = device.hear(delivery.as_slice(), &bench::process()) {
+        encode(&answer, device.response_preambles(), &mut message)?;
+    }
+    Ok(same_bytes(message.as_slice(), want.as_slice())? && same(&device.counter(), &counter)?)
+}
+
+/// Like `replies_so`, for a request to the device's own address.
+fn replies_on_its_own(alloc: Global, row: &OwnRow) -> Result<bool, Fail> {
+    let (asked, replied, counter) = row;
+    let request = format!(in alloc; "{REQUEST}{asked}")?;
+    let reply = format!(in alloc; "{REPLY}{replied}")?;
+    replies_so(alloc, request.as_str(), reply.as_str(), *counter)
+}
+
+#[test]
+fn worked_messages_are_replied_to(rt: HostRuntime) -> Result<(), Fail> {
+    for (number, row) in OWN.iter().enumerate() {
+        hold_ok(&rt, replies_on_its_own(rt.alloc(), row), "row", number)?;
+    }
+    for (number, (heard, reply)) in HEARD.iter().enumerate() {
+        let replied = replies_so(rt.alloc(), heard, reply, 0);
+        hold_ok(&rt, replied, "heard row", number)?;
     }
     Ok(())
 }

@@ -1,7 +1,6 @@
 mod header;
 mod line;
 mod sighting;
-mod start;
 pub mod stream;
 
 use crate::chars::write_chars;
@@ -267,6 +266,35 @@ fn faults_have_numbers_and_texts(rt: HostRuntime) -> Result<(), Fail> {
     for (row, (fault, number, text)) in FAULTS.iter().enumerate() {
         hold_same(&rt, &fault.number(), number, "the number of row", row)?;
         hold_ok(&rt, has_text(rt.alloc(), fault, text), "row", row)?;
+    }
+    Ok(())
+}
+
+/// Characters, and the first place at which a body may start. The high byte of a character is its fault bits.
+type Start<'a> = (&'a [u16], Option<usize>);
+
+const STARTS: &[Start] = &[
+    (&[], None),
+    (&[0xFF, 0xFF], None),
+    (&[0xFF, 0xFF, 0xFF], None),
+    (&[0xFF, 0x82, 0x00], None),
+    (&[0x40FF, 0xFF, 0x82], None),
+    (&[0xFF, 0xFF, 0x40FF, 0x82], Some(2)),
+    (&[0xFF, 0xFF, 0xFF, 0x00, 0xFF, 0xFF, 0x82], Some(3)),
+];
+
+/// Returns the first place at which a body may start. The outer option is `None` if `heard` is no list of characters, or has more than
+/// seven characters.
+fn start_in(heard: &[u16]) -> Option<Option<usize>> {
+    let mut chars = [Char::new(0, 0)?; 7];
+    write_chars(&mut chars, heard)?;
+    Some(first_start(chars.get(..heard.len())?))
+}
+
+#[test]
+fn the_first_start_is_found(rt: HostRuntime) -> Result<(), Fail> {
+    for (row, (heard, place)) in STARTS.iter().enumerate() {
+        hold_same(&rt, &start_in(heard), &Some(*place), "row", row)?;
     }
     Ok(())
 }

@@ -4,7 +4,6 @@ pub mod Item
 pub mod Reads
 pub mod Items
 pub mod Marks
-pub mod LeadingMark
 pub mod Heard
 pub mod NoMark
 pub mod Lanes

@@ -1,5 +1,5 @@
 -- Texts of hex items and separators (implementation choice). A text consists of pieces, and each piece is a separator or an item.
-use Rattle.std.specs.Prelude.{◌≡◌, ◌≢◌, ℕ, ◌+◌, ◌⊎◌, List, [], ◌∷◌, ◌++◌, length, Option, ⊤}
+use Rattle.std.specs.Prelude.{◌≡◌, ◌≢◌, ℕ, ◌+◌, ◌⊎◌, List, [], ◌∷◌, ◌++◌, length, Option, ⊤, ◌<◌, ◌≤◌, drop, take}
 use Rattle.std.specs.Option.{option_to_list}
 use Rattle.hart_frame.specs.heard.Character.{Character, faultless}
 use Rattle.hart_text.specs.Item as items
@@ -110,3 +110,23 @@ pub record BeginsAs (text : List ℕ) (char : Option Character) (len : ℕ) : Ty
   pub begins : BeginsWith text piece tail
   pub long : length (spelling piece) ≡ len
   pub means : meaning piece ≡ option_to_list char
+
+-- Only private calls use the definitions from here on. They describe the result of reading the first pieces of a text.
+-- The first `len` bytes of a text, at least one, are read as these characters.
+pub record ReadsFirst (text : List ℕ) (chars : List Character) (len : ℕ) : Type 0 where
+  pub some : 0 < len
+  pub within : len ≤ length text
+  pub reads : ReadsUpTo text chars (drop len text)
+
+-- The first `len` bytes of a text, at least one, were read as characters without faults, and the bytes of these characters were appended to
+-- a chunk.
+pub record ReadsMore (text old new : List ℕ) (len : ℕ) : Type 0 where
+  pub bytes : List ℕ
+  pub items : ReadsFirst text (faultless bytes) len
+  pub added : new ≡ old ++ bytes
+
+-- The first `len` bytes of a text, at least one, are read as characters without faults. The first `count` elements of `bytes` are the bytes
+-- of these characters.
+pub record ReadsRun (text bytes : List ℕ) (count len : ℕ) : Type 0 where
+  pub few : count ≤ length bytes
+  pub items : ReadsFirst text (faultless (take count bytes)) len

@@ -4,5 +4,3 @@ pub mod Digits
 pub mod Items
 pub mod Heard
 pub mod Marks
-pub mod Reading
-pub mod DigitLanes

@@ -1,8 +1,7 @@
 //! Chunks of items without fault bits.
 ghost use Rattle.std.specs.Prelude.{◌≡◌, ◌+◌, ◌++◌, ◌<◌, ◌≤◌, ◌⊎◌, [], drop, length, take, IfNone, MatchOption};
 ghost use Rattle.hart_frame.specs.heard.Character.{faultless};
-ghost use Rattle.hart_text.specs.Items.{NoFaultlessBegins, ReadsUpTo};
-ghost use Rattle.hart_text.specs.Reading.{ReadsMore};
+ghost use Rattle.hart_text.specs.Items.{NoFaultlessBegins, ReadsUpTo, ReadsMore};
 
 use crate::digits::Digits;
 use crate::item_run::{ItemRun, RUN_LEN, item_run};

@@ -1,7 +1,7 @@
 //! Sixteen bytes of a text at once, one in each lane of a vector. The proof compares the values of the digits with the values that the
 //! crate `hex` gives, for all 256 values of a byte.
 ghost use Rattle.std.specs.Prelude.{◌<◌};
-ghost use Rattle.hart_text.specs.DigitLanes.{AreDigitLanes, AreLeading, ArePairLanes, AreSeparatorLanes};
+ghost use Rattle.hart_text.specs.Digits.{AreDigitLanes, AreLeading, ArePairLanes, AreSeparatorLanes};
 
 use std::simd::prelude::*;
 

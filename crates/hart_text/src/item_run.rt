@@ -1,6 +1,6 @@
 //! Several items without fault bits, read at once.
 ghost use Rattle.std.specs.Prelude.{IfSome};
-ghost use Rattle.hart_text.specs.Reading.{ReadsRun};
+ghost use Rattle.hart_text.specs.Items.{ReadsRun};
 
 use crate::digit_lanes::{LANES, leading_lanes, pair_lanes, separator_lanes};
 use crate::items::is_separator;

@@ -1,3 +1,3 @@
 -- Lemmas. A module of lemmas has the name of the module of code or definitions that it is about.
-pub mod hart_date
 pub mod Laws
+pub mod Calendar

@@ -1,15 +1,16 @@
 //! Dates: a day of the calendar, or "not set".
-ghost use Rattle.std.specs.Prelude.{◌≡◌, ◌≢◌, ◌↔◌, IsOk, IfOk, IfErr, MatchBool};
-ghost use Rattle.hart_values.specs.hart_date.Calendar.{IsDateBytes, not_set};
+ghost use Rattle.std.specs.Prelude.{◌≡◌, ◌≢◌, ◌+◌, ◌↔◌, IsOk, IfOk, IfErr, IsTrue, MatchBool};
+ghost use Rattle.hart_values.specs.hart_date.Calendar.{IsCalendarDay, IsDateBytes, not_set};
 
 use crate::ValueFault;
-use crate::hart_date::calendar::is_calendar_day;
+use jiff::civil::Date;
 use std::marker::Model;
-
-mod calendar;
 
 /// The bytes of the date "not set".
 const NOT_SET: [u8; 3] = [0; 3];
+
+/// The year that a date codes as the byte 0.
+const FIRST_YEAR: i16 = 1900;
 
 /// A day of the years 1900 to 2155 (HCF_SPEC-127), or "not set" (implementation choice).
 ///
@@ -64,5 +65,18 @@ impl HartDate {
         ensures { MatchBool result (self ≢ not_set) (self ≡ not_set) }
     {
         self.bytes != NOT_SET
+    }
+}
+
+/// Returns true if the calendar has this day. The argument `year` is the year minus 1900.
+///
+/// The calendar comes from the crate `jiff`. The definition `IsCalendarDay` does not depend on `jiff`: it states the lengths of the months
+/// and the leap years, so that a reader can check them.
+pub(crate) fn is_calendar_day(day: u8, month: u8, year: u8) -> bool
+    ensures { IsTrue result ↔ IsCalendarDay day month (1900 + year) }
+{
+    match (i8::try_from(month), i8::try_from(day)) {
+        (Ok(month), Ok(day)) => Date::new(FIRST_YEAR + i16::from(year), month, day).is_ok(),
+        _ => false,
     }
 }

@@ -1,6 +1,6 @@
 -- The output of a call in which a station, a device or a master, answers each line that it reads (implementation choice).
 use Rattle.std.specs.Prelude.{◌≡◌, ◌⊎◌, ℕ, ◌+◌, List, [], ◌∷◌, ◌++◌, Ok, Err}
-use Rattle.hart_line.specs.script.Lines.{lines_of}
+use Rattle.hart_text.specs.Lines.{lines_of}
 use Rattle.hart_line.specs.declared.memory.NoRoom.{NoRoom}
 use Rattle.hart_cli.specs.declared.fault.CliFault.TheVariants as faults
 use Rattle.hart_station.specs.Station.{Manner, Serves, chars_room, input_limit}

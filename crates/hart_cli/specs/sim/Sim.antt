@@ -3,7 +3,7 @@ use Rattle.std.specs.Prelude.{◌≡◌, ◌⊎◌, ◌<◌, ℕ, List, Option}
 use Rattle.hart_device.specs.Bench.{bench_process}
 use Rattle.hart_device.specs.Device.{DeviceState}
 use Rattle.hart_line.specs.world.Faults.{IsFault}
-use Rattle.hart_line.specs.world.Led.{Led}
+use Rattle.hart_line.specs.world.Step.{Led}
 use Rattle.hart_line.specs.world.Needs.{IsNeededForOutcomes}
 use Rattle.hart_line.specs.world.Noted.{IsNeededByNoting}
 use Rattle.hart_line.specs.script.Rows.{HasFirstBadLine, IsNeededByText, IsScript}

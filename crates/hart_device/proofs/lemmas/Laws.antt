@@ -11,15 +11,15 @@ use Rattle.hart_device.specs.Device.{DeviceState, Executes, IsDevice, Nothing}
 use Rattle.hart_device.specs.Process.{IsProcess}
 use Rattle.hart_device.specs.answer.Answer.{answer_of, code_of, effect_of, is_answered, reading_of, reply_of, state_after}
 use Rattle.hart_device.specs.declared.process.Process.{Process}
-use Rattle.hart_device.specs.image.Image.{IsImageOf, image_of}
+use Rattle.hart_device.specs.Image.{IsImageOf, image_of}
 use Rattle.hart_device.proofs.lemmas.answer.Effect.{answered_if, identity_stays, judged_has_code, refused, write_executes}
-use Rattle.hart_device.proofs.lemmas.answer.Reply.{reply_read}
-use Rattle.hart_device.proofs.lemmas.image.Image.{one_state, written_is}
+use Rattle.hart_device.proofs.lemmas.answer.Content.{reply_read}
+use Rattle.hart_device.proofs.lemmas.Image.{one_state, written_is}
 pub use Rattle.hart_device.proofs.lemmas.answer.Delivery.{deliveries_bring_one-brings, deliveries_bring_one-one}
 pub use Rattle.hart_device.proofs.lemmas.answer.Effect.{resets_name_this_counter-only}
 pub use Rattle.hart_device.proofs.lemmas.answer.Effect.{writes_execute_their_overwrite-only, writes_execute_their_overwrite-well_made}
-pub use Rattle.hart_device.proofs.lemmas.image.Image.{devices_are_kept_whole-any_cold_start, images_have_no_fault}
-pub use Rattle.hart_device.proofs.lemmas.registers.Registers.{registers_of_lists-again, registers_of_lists-first, registers_of_lists-last}
+pub use Rattle.hart_device.proofs.lemmas.Image.{devices_are_kept_whole-any_cold_start, images_have_no_fault}
+pub use Rattle.hart_device.proofs.lemmas.Registers.{registers_of_lists-again, registers_of_lists-first, registers_of_lists-last}
 
 pub answers_are_replies-well_made : (state : DeviceState) (process : Process) (frame : FrameParts) → AreValid state.contents
     → IsProcess process → is_known frame.command ≡ true → IsReply (reply_of state process frame)

@@ -2,6 +2,4 @@
 pub mod Effect
 pub mod Garbled
 pub mod Delivery
-pub mod Faults
 pub mod Content
-pub mod Reply

@@ -8,7 +8,7 @@ use Rattle.hart_values.specs.declared.address.Address.TheVariants.{Unique}
 use Rattle.hart_values.specs.declared.master_id.MasterId.{MasterId}
 use Rattle.hart_frame.specs.heard.Character.{Character, faultless}
 use Rattle.hart_frame.specs.wire.FrameParts.{FrameParts}
-use Rattle.hart_frame.specs.heard.Start.{IsFirstStart}
+use Rattle.hart_frame.specs.heard.Place.{IsFirstStart}
 use Rattle.hart_frame.specs.wire.Parity.{bit_count}
 use Rattle.hart_frame.specs.declared.wire.kind.FrameKind.TheVariants.{Ack}
 use Rattle.hart_device.specs.declared.answer.garbled.GarbledRequest.{GarbledRequest}

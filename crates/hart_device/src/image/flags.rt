@@ -1,6 +1,6 @@
 //! The flags of an image.
 ghost use Rattle.std.specs.Prelude.{◌≡◌, ◌≤◌, ◌↔◌, IsSome, IfSome};
-ghost use Rattle.hart_device.specs.image.Image.{flags_of};
+ghost use Rattle.hart_device.specs.Image.{flags_of};
 
 use crate::bits::bit_if;
 use hart_values::EachMaster;

@@ -3,9 +3,8 @@ ghost use Rattle.hart_commands.specs.Registers.{AreValid, IsValidIn, size_of};
 ghost use Rattle.hart_commands.specs.RequestData.{mode_byte};
 ghost use Rattle.hart_commands.specs.declared.register.Register.{Register};
 ghost use Rattle.hart_commands.specs.declared.register.Register.TheVariants.{Polling, Mode, Tag, LongTag};
-ghost use Rattle.hart_device.specs.image.Image.{IsLongTagOf};
-ghost use Rattle.hart_device.specs.registers.Ranges.{HoldsInvalid, contents_in, standing_for};
-ghost use Rattle.hart_device.specs.registers.Values.{values_of};
+ghost use Rattle.hart_device.specs.Image.{IsLongTagOf};
+ghost use Rattle.hart_device.specs.Registers.{HoldsInvalid, contents_in, standing_for, values_of};
 
 use crate::registers::bytes_of;
 use crate::registers::field_registers::FieldRegisters;

@@ -1,6 +1,6 @@
 //! Where each register stands in the array of all registers.
 ghost use Rattle.std.specs.Prelude.{◌≡◌};
-ghost use Rattle.hart_device.specs.registers.Ranges.{end_of, start_of};
+ghost use Rattle.hart_device.specs.Registers.{end_of, start_of};
 
 use hart_commands::Register;
 use std::ops::Range;

@@ -8,7 +8,7 @@ ghost use Rattle.hart_frame.specs.declared.wire.kind.FrameKind.TheVariants.{Ack}
 ghost use Rattle.hart_frame.specs.heard.Frames.{moved};
 ghost use Rattle.hart_frame.specs.heard.Sighting.{Message, miss_in_whole, moved_seen};
 ghost use Rattle.hart_frame.specs.scan.Sighting.{NamesPlacesBelow, seen_of};
-ghost use Rattle.hart_frame.specs.scan.View.{found_of};
+ghost use Rattle.hart_frame.specs.wire.View.{found_of};
 ghost use Rattle.hart_frame.specs.wire.FrameParts.{IsLongEnough};
 ghost use Rattle.hart_frame.specs.wire.Header.{header_parts};
 ghost use Rattle.hart_frame.specs.wire.View.{parts_of};

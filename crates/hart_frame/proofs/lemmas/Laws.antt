@@ -21,8 +21,8 @@ pub use Rattle.hart_frame.proofs.lemmas.heard.Damage.{AreFrames-marked as damage
 pub use Rattle.hart_frame.proofs.lemmas.heard.FramesFound.{AreFrames-found as every_list_has_frames}
 pub use Rattle.hart_frame.proofs.lemmas.heard.Damage.{AreFrames-message as messages_have_their_frame_alone-message}
 pub use Rattle.hart_frame.proofs.lemmas.heard.Damage.{AreFrames-nothing as messages_have_their_frame_alone-nothing}
-pub use Rattle.hart_frame.proofs.lemmas.heard.Start.{IsFirstStart-one as first_starts_are_decided-one, start_test}
-pub use Rattle.hart_frame.proofs.lemmas.heard.Start.{first_start_decided as first_starts_are_decided-decided}
+pub use Rattle.hart_frame.proofs.lemmas.heard.Place.{IsFirstStart-one as first_starts_are_decided-one, start_test}
+pub use Rattle.hart_frame.proofs.lemmas.heard.Place.{first_start_decided as first_starts_are_decided-decided}
 pub use Rattle.hart_frame.proofs.lemmas.scan.Stream.{history_all as frames_are_streamed-all, history_length as frames_are_streamed-pushed}
 pub use Rattle.hart_frame.proofs.lemmas.scan.Stream.{history_held as held_characters_have_the_later_frames-held}
 pub use Rattle.hart_frame.proofs.lemmas.scan.SightingLaws.{all as next_sightings_are_all-all, grown as next_sightings_are_all-grown}

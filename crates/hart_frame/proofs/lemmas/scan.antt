@@ -7,7 +7,6 @@ pub mod Sighted
 pub mod Alone
 pub mod NextSeen
 pub mod Completed
-pub mod UndecidedSeen
 pub mod SightingLaws
 pub mod Undecided
 pub mod Stream

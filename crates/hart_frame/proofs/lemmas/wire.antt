@@ -1,10 +1,8 @@
 -- On the wire: a frame, and the bytes of its body and its message.
 pub mod Parity
-pub mod Prefix
 pub mod Lane
 pub mod Body
 pub mod UnambiguousBodies
-pub mod Layout
 pub mod Refusal
 pub mod BodiesFound
 pub mod Truncated

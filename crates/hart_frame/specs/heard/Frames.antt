@@ -1,8 +1,11 @@
--- The frames in a list of received characters (HCF_SPEC-081; implementation choice where possible frames overlap).
+-- The frames in a list of received characters (HCF_SPEC-081; implementation choice where possible frames overlap). Whether a delivery,
+-- which is what is heard at once, has no frame, one frame or several (implementation choice).
 use Rattle.std.specs.Prelude.{◌+◌, ◌≤◌, ◌<◌, ◌⊎◌, ℕ, List, [], ◌∷◌}
 use Rattle.hart_frame.specs.heard.Character.{Character}
 use Rattle.hart_frame.specs.heard.Place.{IsOpen, StandsIn}
 use Rattle.hart_frame.specs.declared.heard.found.Found.{Found}
+use Rattle.hart_frame.specs.declared.scan.first.LoneFrame.{LoneFrame}
+use Rattle.hart_frame.specs.declared.scan.first.LoneFrame.TheVariants.{NoFrame, Alone, Several}
 
 -- A list of characters has no frame from the place `from` on.
 abbrev pub HasNoFrame : List Character → ℕ → Type 0
@@ -29,3 +32,16 @@ IsUndecided chars = HasNoFrame chars 0
 -- A found frame, moved: the same frame, with its start and its stop increased by `places`.
 abbrev pub moved : ℕ → Found → Found
 moved places found = record { start = places + found.start; stop = places + found.stop; frame = found.frame }
+
+-- Whether a delivery with this list of frames has no frame, exactly one frame, or several.
+abbrev pub lone_of : List Found → LoneFrame
+lone_of [] = NoFrame
+lone_of (found ∷ []) = Alone found
+lone_of (found ∷ other ∷ more) = Several
+
+-- A delivery has no frame (`NoFrame`), exactly this frame (`Alone`), or several frames (`Several`).
+abbrev pub IsLone : List Character → LoneFrame → Type 0
+IsLone delivery NoFrame = AreFrames delivery 0 []
+IsLone delivery (Alone found) = AreFrames delivery 0 (found ∷ [])
+IsLone delivery Several =
+    (found : Found) × (other : Found) × (more : List Found) × AreFrames delivery 0 (found ∷ other ∷ more)

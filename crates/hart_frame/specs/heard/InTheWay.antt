@@ -8,7 +8,7 @@ use Rattle.hart_frame.specs.wire.Layout.{body_length, byte_count_in, delimiter_i
 use Rattle.hart_frame.specs.wire.Parity.{IsCheckByte}
 use Rattle.hart_frame.specs.wire.Delimiter.{IsBurstDelimiter, IsDelimiter}
 use Rattle.hart_frame.specs.wire.Refusal.{HasByteCount, HasCheckByte, HasGoodByteCount, IsTruncated}
-use Rattle.hart_frame.specs.heard.Start.{IsStart}
+use Rattle.hart_frame.specs.heard.Place.{IsStart}
 use Rattle.hart_frame.specs.declared.wire.fault.FrameFault.{FrameFault}
 use Rattle.hart_frame.specs.declared.wire.fault.FrameFault.TheVariants.{Truncated}
 use Rattle.hart_frame.specs.declared.heard.miss.Miss.{Miss}

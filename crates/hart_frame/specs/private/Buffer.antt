@@ -1,13 +1,17 @@
--- What a buffer of a scanner holds, and what it knows of the characters that it holds (implementation choice).
+-- What a buffer of a scanner holds, and what it knows of the characters that it holds. How many characters of a chunk a scanner hears in
+-- one call (implementation choice).
 use Rattle.std.specs.Prelude.{◌≡◌, ◌≢◌, ◌<◌, ◌≤◌, ◌+◌, ◌^◌, ℕ, Bool, true, false, Option, None, Some, IfSome, ◌⊎◌, List, ◌++◌, drop, length}
+use Rattle.std.specs.Prelude.{[], take}
 use Rattle.std.specs.Option.{option_to_list}
-use Rattle.hart_frame.specs.heard.Character.{faultless}
+use Rattle.hart_frame.specs.heard.Character.{faultless, Character}
 use Rattle.hart_frame.specs.private.Candidate.{IsWhole, MayBegin}
-use Rattle.hart_frame.specs.scan.Scanner.{Scan}
+use Rattle.hart_frame.specs.scan.Scanner.{Scan, MovesPast, hearing}
 use Rattle.hart_frame.specs.declared.wire.layout.Layout.{Layout}
 use Rattle.hart_frame.specs.declared.scan.buffer.Buffer.{Buffer}
 use Rattle.hart_frame.specs.declared.scan.buffer.State.{State}
 use Rattle.hart_frame.specs.declared.scan.buffer.State.TheVariants.{Busy, Drained, Stands}
+use Rattle.hart_frame.specs.heard.Frames.{IsUndecided}
+use Rattle.hart_frame.specs.scan.Chunk.{StopsAt}
 
 -- The faultless bytes that a buffer holds: the bytes of its list from the place `from` on.
 abbrev pub held_bytes : Buffer → List ℕ
@@ -65,3 +69,21 @@ pub record IsSound (b : Buffer) : Type 0 where
 -- No byte can follow what is held: the scanner is finished, or the last character held has faults.
 abbrev pub IsEnded : Buffer → Type 0
 IsEnded b = (b.finished ≡ true) ⊎ (b.damaged ≢ None)
+
+-- A scanner hears the first `count` characters of a chunk. These are the characters up to the first that decides a frame, or the whole
+-- chunk if no character decides a frame. It hears at least one character unless the chunk is empty.
+pub record Hears (old new : Scan) (chunk : List Character) (count : ℕ) : Type 0 where
+  pub within : count ≤ length chunk
+  pub some : 0 < length chunk → 0 < count
+  pub moves : MovesPast (hearing old (take count chunk)) new []
+  pub before : (fewer : ℕ) → fewer < count → IsUndecided (old.held ++ take fewer chunk)
+  pub stops : StopsAt new count (length chunk)
+
+-- A scanner hears the first `count` characters of a chunk, and no character after the first that decides a frame. What it then holds begins
+-- with a frame, or decides no frame.
+pub record HearsPart (old new : Scan) (chunk : List Character) (count : ℕ) : Type 0 where
+  pub within : count ≤ length chunk
+  pub some : 0 < count
+  pub moves : MovesPast (hearing old (take count chunk)) new []
+  pub before : (fewer : ℕ) → fewer < count → IsUndecided (old.held ++ take fewer chunk)
+  pub stops : StopsAt new count count

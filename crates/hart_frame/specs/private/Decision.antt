@@ -1,4 +1,5 @@
--- What a scanner decides from its buffer: a frame stands in it, or no frame is decided yet (implementation choice).
+-- What a scanner decides from its buffer: a frame stands in it, or no frame is decided yet (implementation choice). The first frame of what
+-- was heard (HCF_SPEC-081).
 use Rattle.std.specs.Prelude.{◌≡◌, ◌≤◌, ◌<◌, ◌+◌, ◌⊎◌, ℕ, false, IsTrue, None, MatchOption, List, [], ◌++◌, drop, length}
 use Rattle.std.specs.List.{slice_range}
 use Rattle.std.specs.Option.{option_to_list}
@@ -14,6 +15,8 @@ use Rattle.hart_frame.specs.declared.wire.layout.Layout.{Layout}
 use Rattle.hart_frame.specs.declared.scan.buffer.Buffer.{Buffer}
 use Rattle.hart_frame.specs.declared.scan.buffer.Span.{Span}
 use Rattle.hart_frame.specs.declared.scan.search.SearchResult.{SearchResult}
+use Rattle.hart_frame.specs.heard.Frames.{IsFirst}
+use Rattle.hart_frame.specs.declared.heard.found.Found.{Found}
 
 -- The bytes of the body at a span of the buffer's list.
 abbrev pub body_at : Buffer → Span → List ℕ
@@ -50,3 +53,18 @@ pub record IsHeldSearched (b : Buffer) (found : SearchResult) : Type 0 where
   pub within : found.place ≤ length (held_bytes b)
   pub none : NoneBeginHeld b found.place
   pub stands : MatchOption found.layout (IsHeldOpen b found.place) (λ layout. IsWhole layout (drop found.place (held_bytes b)))
+
+-- A whole body lies at the span. The places of the span are within a list of characters, and the first frame of that list has this body.
+pub record HoldsFirst (buffer : Buffer) (chars : List Character) (span : Span) : Type 0 where
+  pub stored : span.at + layout_length span.layout ≤ length buffer.bytes
+  pub body : IsWholeBody span.layout (body_at buffer span)
+  pub order : span.start < span.stop
+  pub within : span.stop ≤ length chars
+  pub first : (frame : FrameParts) → IsBody frame (body_at buffer span)
+      → IsFirst (record { start = span.start; stop = span.stop; frame = frame }) chars 0
+
+-- The first frame of a list, with its places in that list.
+pub record IsFirstIn (found : Found) (chars : List Character) : Type 0 where
+  pub first : IsFirst found chars 0
+  pub order : found.start < found.stop
+  pub within : found.stop ≤ length chars

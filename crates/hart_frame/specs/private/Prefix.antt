@@ -1,5 +1,6 @@
 -- How bytes begin as a body (HCF_SPEC-081).
-use Rattle.std.specs.Prelude.{◌≡◌, ◌≢◌, ℕ, ◌+◌, ◌-◌, ◌<◌, ◌≤◌, List, None, Some, length, slice_index, take}
+use Rattle.std.specs.Prelude.{ℕ, List, map, ◌≡◌, ◌≢◌, ◌+◌, ◌-◌, ◌<◌, ◌≤◌, None, Some, length, slice_index, take}
+use Rattle.hart_frame.specs.heard.Character.{Character}
 use Rattle.std.specs.List.{All}
 use Rattle.hart_frame.specs.private.Layout.{Describes, layout_length}
 use Rattle.hart_frame.specs.wire.Layout.{body_length, byte_count_in, byte_count_place, delimiter_in}
@@ -12,6 +13,10 @@ use Rattle.hart_frame.specs.declared.wire.prefix.Prefix.{Prefix}
 use Rattle.hart_frame.specs.declared.wire.prefix.Prefix.TheVariants as prefix
 use Rattle.hart_frame.specs.declared.wire.prefix.Wrong.{Wrong}
 use Rattle.hart_frame.specs.declared.wire.prefix.Wrong.TheVariants.{BadCheck, BadDelimiter, ShortReply}
+
+-- The bytes of characters, whatever their faults.
+abbrev pub bytes_of : List Character → List ℕ
+bytes_of chars = map (λ character. character.byte) chars
 
 -- Bytes are a whole body of a layout if the layout describes them and has their length. Nothing may be wrong before the check byte, the
 -- exclusive or of all bytes must be 0, and each byte must be below 256.

@@ -6,7 +6,7 @@ use Rattle.hart_values.specs.declared.master_id.MasterId.{MasterId}
 use Rattle.hart_values.specs.declared.master_id.MasterId.TheVariants.{Primary, Secondary}
 use Rattle.hart_frame.specs.declared.wire.kind.FrameKind.{FrameKind}
 use Rattle.hart_frame.specs.declared.wire.kind.FrameKind.TheVariants.{Stx, Ack}
-use Rattle.hart_frame.specs.wire.PlainAddress.{address_of}
+use Rattle.hart_frame.specs.wire.View.{address_of}
 use Rattle.hart_frame.specs.declared.wire.header.Header.{Header}
 use Rattle.hart_frame.specs.wire.Delimiter.{is_delimiter}
 use Rattle.hart_frame.specs.wire.FrameParts.{FrameParts}

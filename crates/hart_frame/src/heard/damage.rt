@@ -2,7 +2,7 @@
 ghost use Rattle.std.specs.Prelude.{◌⊎◌, List, ℕ, [], ◌∷◌, length};
 ghost use Rattle.hart_frame.specs.heard.Character.{Character};
 ghost use Rattle.hart_frame.specs.heard.Damage.{IsCheckDamage, IsMarkedDamage};
-ghost use Rattle.hart_frame.specs.heard.DamageExamples.{faulty_address, identity_request, other_address, other_request, preamble_in_body};
+ghost use Rattle.hart_frame.specs.heard.Damage.{faulty_address, identity_request, other_address, other_request, preamble_in_body};
 ghost use Rattle.hart_frame.specs.wire.FrameParts.{FrameParts};
 ghost use Rattle.hart_frame.specs.heard.Frames.{AreFrames};
 

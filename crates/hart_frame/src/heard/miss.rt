@@ -7,7 +7,7 @@ ghost use Rattle.hart_frame.specs.private.Miss.{IsOfBytes, cut_miss, wrong_miss}
 ghost use Rattle.hart_frame.specs.private.Prefix.{shown_by};
 ghost use Rattle.hart_frame.specs.heard.Place.{HasFrameAt, HasFrameUpTo};
 ghost use Rattle.hart_frame.specs.heard.Miss.{body_miss, delimiter_miss, faulty_or, follows_one_preamble, follows_preamble, miss_of};
-ghost use Rattle.hart_frame.specs.heard.Start.{IsStart};
+ghost use Rattle.hart_frame.specs.heard.Place.{IsStart};
 ghost use Rattle.hart_frame.specs.wire.Body.{BeginsWithBody};
 ghost use Rattle.hart_frame.specs.wire.FrameParts.{FrameParts};
 ghost use Rattle.hart_frame.specs.wire.Parity.{IsCheckByte};

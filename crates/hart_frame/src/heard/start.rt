@@ -1,7 +1,7 @@
 //! Where the body of a message may start.
 ghost use Rattle.std.specs.Prelude.{◌≡◌, ◌<◌, ◌≤◌, ◌⊎◌, ◌↔◌, ℕ, List, length, IsTrue, MatchOption};
 ghost use Rattle.hart_frame.specs.heard.Character.{Character};
-ghost use Rattle.hart_frame.specs.heard.Start.{HasNoStart, IsFirstStart, IsStart};
+ghost use Rattle.hart_frame.specs.heard.Place.{HasNoStart, IsFirstStart, IsStart};
 
 use crate::Char;
 use crate::wire::message::PREAMBLE;

@@ -1,8 +1,7 @@
 //! Chunks: characters that a scanner hears in one call.
 ghost use Rattle.std.specs.Prelude.{◌≡◌, ◌<◌, ◌≤◌, ◌+◌, ◌^◌, ◌++◌, length};
 ghost use Rattle.hart_frame.specs.heard.Character.{faultless};
-ghost use Rattle.hart_frame.specs.private.Buffer.{IsSound, held_bytes, scan_of, state_of};
-ghost use Rattle.hart_frame.specs.private.Chunk.{Hears, HearsPart};
+ghost use Rattle.hart_frame.specs.private.Buffer.{IsSound, held_bytes, scan_of, state_of, Hears, HearsPart};
 ghost use Rattle.hart_frame.specs.private.Search.{IsSearched};
 ghost use Rattle.hart_frame.specs.declared.scan.buffer.State.TheVariants.{Drained};
 

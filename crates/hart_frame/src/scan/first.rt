@@ -1,11 +1,9 @@
 //! The first frame of what was heard. It is found with the code of the scanner, so that all frames are found by the same code.
 ghost use Rattle.std.specs.Prelude.{◌≡◌, ◌+◌, ◌<◌, ◌≤◌, List, false, length, IsTrue, MatchOption, IfSome};
-ghost use Rattle.hart_frame.specs.heard.Delivery.{IsLone, lone_of};
-ghost use Rattle.hart_frame.specs.heard.Frames.{AreFrames, HasNoFrame, IsFirst};
+ghost use Rattle.hart_frame.specs.heard.Frames.{IsLone, lone_of, AreFrames, HasNoFrame, IsFirst};
 ghost use Rattle.hart_frame.specs.private.Buffer.{IsSound, scan_of};
 ghost use Rattle.hart_frame.specs.private.Prefix.{IsWholeBody};
-ghost use Rattle.hart_frame.specs.private.Decision.{body_at};
-ghost use Rattle.hart_frame.specs.private.First.{HoldsFirst, IsFirstIn};
+ghost use Rattle.hart_frame.specs.private.Decision.{body_at, HoldsFirst, IsFirstIn};
 ghost use Rattle.hart_frame.specs.scan.Scanner.{Gives, GivesNothing, new_scan};
 ghost use Rattle.hart_frame.specs.wire.Body.{IsBody};
 ghost use Rattle.hart_frame.specs.private.Layout.{layout_length};

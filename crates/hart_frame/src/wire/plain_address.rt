@@ -2,7 +2,7 @@
 //! a type that implements `Model`, contracts see another value in place of the value itself.
 ghost use Rattle.std.specs.Prelude.{◌≡◌};
 ghost use Rattle.hart_frame.specs.private.Address.{IsInRange};
-ghost use Rattle.hart_frame.specs.wire.PlainAddress.{address_of};
+ghost use Rattle.hart_frame.specs.wire.View.{address_of};
 
 use hart_values::Address;
 

@@ -1,5 +1,4 @@
 -- The world of a script: what has happened on the line.
-pub mod Basics
 pub mod Steps
 pub mod Leads
 pub mod Submitted

@@ -6,7 +6,7 @@ use Rattle.hart_commands.specs.Registers.{registers_of}
 use Rattle.hart_commands.specs.RequestCode.{is_write}
 use Rattle.hart_commands.specs.RequestData.{command_of}
 use Rattle.hart_device.specs.answer.Answer.{after_refusal}
-use Rattle.hart_line.specs.world.Executions.{last_executions, times_executed}
+use Rattle.hart_line.specs.world.World.{last_executions, times_executed}
 use Rattle.hart_line.specs.world.Promises.{AnswersLastSending, AreWellMade, IsExecutedFromHand, IsExecutedInItsTurn, IsLastReset}
 use Rattle.hart_line.specs.world.Promises.{IsRefusedByDevice, IsStepOf, IsUnrefusedWrite, brought_in_step, requests_of, sendings_in}
 use Rattle.hart_line.specs.world.Step.{IsLast}

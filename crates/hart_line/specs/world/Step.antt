@@ -4,7 +4,7 @@ use Rattle.std.specs.Prelude.{Some}
 use Rattle.std.specs.Option.{option_to_list}
 use Rattle.hart_line.specs.Types.{Address, MasterId, Character, FrameParts, EachMaster, Reply, Request, Brought, OneFrame, DeviceState}
 use Rattle.hart_line.specs.Types.{Effect, Nothing, Executes, Resets, MasterFault, Heard, Chars, LineEvent, Submit, Turn, Protect, Noise}
-use Rattle.hart_line.specs.Types.{Restart, Outcome, Answered, NoReply, Unfinished, Refused}
+use Rattle.hart_line.specs.Types.{Restart, Outcome, Answered, NoReply, Unfinished, Refused, Spoken}
 use Rattle.hart_frame.specs.wire.FrameParts.{request_parts}
 use Rattle.hart_values.specs.EachMaster.{of_master, with_master}
 use Rattle.hart_commands.specs.RequestData.{command_of, request_data}
@@ -15,7 +15,7 @@ use Rattle.hart_master.specs.Acceptance.{IsReplyTo}
 use Rattle.hart_master.specs.Pairing.{may_ask}
 use Rattle.hart_master.specs.declared.fault.MasterFault.TheVariants.{Pending, WrongAddress}
 use Rattle.hart_line.specs.world.Damage.{Arrives, Reaches}
-use Rattle.hart_line.specs.world.Spoken.{SpokenFrame, master_preambles, spoken_by, party_of}
+use Rattle.hart_line.specs.world.Spoken.{SpokenFrame, master_preambles, spoken_by, party_of, AreSpoken}
 use Rattle.hart_line.specs.world.World.{Execution, InHand, Start, World, first_world, state_of}
 use Rattle.hart_line.specs.declared.line.report.Party.TheVariants.{Device}
 
@@ -153,3 +153,13 @@ LeadsTo start world (event ∷ events) last = (next : World) × Step start world
 -- The last world of a script is the world to which its events lead from the first world.
 abbrev pub IsLast : Start → List LineEvent → World → Type 0
 IsLast start events last = LeadsTo start (first_world start) events last
+
+-- `Led` names what a call returns, because a statement about the script alone would also be true of a call that returns something else.
+-- A script has led to this device, these outcomes and these spoken frames: the script's last world has all of them.
+pub record Led (start : Start) (events : List LineEvent) (device : DeviceState) (outcomes : List Outcome) (spoken : List Spoken)
+    : Type 0 where
+  pub world : World
+  pub last : IsLast start events world
+  pub device_is : device ≡ state_of start.device world
+  pub outcomes_are : outcomes ≡ world.outcomes
+  pub spoken_are : AreSpoken world.spoken spoken

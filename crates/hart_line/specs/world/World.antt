@@ -1,10 +1,12 @@
 -- The world of a script (implementation choice): what has happened on the line. The device and the masters do not know the executions and
 -- the numbers of submissions.
-use Rattle.std.specs.Prelude.{◌≡◌, ℕ, ◌≤◌, ◌+◌, ◌%◌, ◌^◌, ◌||◌, nat_lt, Bool, List, [], length, map, Option, None, Some}
+use Rattle.std.specs.Prelude.{◌≡◌, ℕ, ◌≤◌, ◌+◌, ◌%◌, ◌^◌, ◌||◌, nat_lt, Bool, List, [], length, map, Option, None, Some, ◌==◌, ◌∷◌}
+use Rattle.std.specs.Prelude.{count_by, if◌then◌else◌}
 use Rattle.hart_line.specs.Types.{Address, EachMaster, MasterId, Overwrite, Request, DeviceState, Process, Outcome}
 use Rattle.hart_values.specs.EachMaster.{of_master}
 use Rattle.hart_commands.specs.Registers.{registers_of}
 use Rattle.hart_line.specs.world.Spoken.{SpokenFrame}
+use Rattle.std.specs.List.{list_any}
 
 -- An execution of a configuration write has the number of its submission, counted from 0, and the overwrite that was executed.
 pub record Execution : Type 0 where
@@ -76,3 +78,18 @@ state_of initial world = record initial {
 -- No mark is greater than the number of executions.
 abbrev pub MarksWithin : World → Type 0
 MarksWithin world = (id : MasterId) (mark : ℕ) → of_master id world.marks ≡ Some mark → mark ≤ length world.executions
+
+-- In a script's last world, the list of executions has those of all unrefused writes of the script.
+-- Whether a list has an execution of this submission.
+abbrev pub has_execution_of : ℕ → List Execution → Bool
+has_execution_of number executions = list_any (λ execution. execution.submission == number) executions
+
+-- The executions that have no later execution of the same submission, in the same order.
+abbrev pub last_executions : List Execution → List Execution
+last_executions [] = []
+last_executions (execution ∷ later) =
+    if has_execution_of execution.submission later then last_executions later else execution ∷ last_executions later
+
+-- How often a submission was executed.
+abbrev pub times_executed : ℕ → List Execution → ℕ
+times_executed number executions = count_by (λ execution. execution.submission == number) executions

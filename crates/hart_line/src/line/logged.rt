@@ -4,7 +4,7 @@ ghost use Rattle.hart_line.specs.Types.{Primary, Secondary, Spoken};
 ghost use Rattle.hart_master.specs.declared.hand.Hand.TheVariants.{Empty};
 ghost use Rattle.hart_line.specs.world.Faults.{IsNotDetectable};
 ghost use Rattle.hart_line.specs.world.Kept.{KeepsPromises};
-ghost use Rattle.hart_line.specs.world.Led.{Led};
+ghost use Rattle.hart_line.specs.world.Step.{Led};
 ghost use Rattle.hart_line.specs.world.Needs.{is_submission};
 ghost use Rattle.hart_line.specs.world.Noted.{IsLoggedFault, IsNotingFault};
 ghost use Rattle.hart_line.specs.world.Promises.{start_from};

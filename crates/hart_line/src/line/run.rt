@@ -4,7 +4,7 @@ ghost use Rattle.hart_line.specs.Types.{Primary, Secondary};
 ghost use Rattle.hart_master.specs.declared.hand.Hand.TheVariants.{Empty};
 ghost use Rattle.hart_line.specs.world.Faults.{IsFault, IsNotDetectable};
 ghost use Rattle.hart_line.specs.world.Kept.{KeepsPromises};
-ghost use Rattle.hart_line.specs.world.Led.{Led};
+ghost use Rattle.hart_line.specs.world.Step.{Led};
 ghost use Rattle.hart_line.specs.world.Promises.{start_from};
 
 use crate::line::log::KeptFrames;

@@ -20,9 +20,8 @@ use Rattle.hart_frame.specs.heard.Character.{Character, faultless}
 use Rattle.hart_frame.specs.heard.Frames.{AreFrames, first, moved, none}
 use Rattle.hart_frame.specs.heard.Place.{HasFrameAt}
 use Rattle.hart_frame.specs.heard.Miss.{follows_one_preamble, is_start, miss_of}
-use Rattle.hart_frame.specs.heard.Place.{StandsIn}
-use Rattle.hart_frame.specs.heard.Start.{IsStart}
-use Rattle.hart_frame.proofs.lemmas.heard.Start.{start_test}
+use Rattle.hart_frame.specs.heard.Place.{StandsIn, IsStart}
+use Rattle.hart_frame.proofs.lemmas.heard.Place.{start_test}
 use Rattle.hart_frame.specs.heard.Sighting.{Missed, Seen, header_at, miss_in_whole, missed, seen_miss}
 use Rattle.hart_frame.specs.wire.Header.{HeaderParts}
 use Rattle.hart_listen.specs.Gaps.{IsGap, seen_place}

@@ -6,8 +6,7 @@ use Rattle.hart_frame.specs.declared.heard.found.Found.{Found}
 use Rattle.hart_frame.specs.declared.scan.first.LoneFrame.{LoneFrame}
 use Rattle.hart_frame.specs.declared.scan.first.LoneFrame.TheVariants.{Alone}
 use Rattle.hart_frame.specs.heard.Character.{Character}
-use Rattle.hart_frame.specs.heard.Delivery.{lone_of}
-use Rattle.hart_frame.specs.heard.Frames.{AreFrames}
+use Rattle.hart_frame.specs.heard.Frames.{lone_of, AreFrames}
 use Rattle.hart_master.specs.FrameMaster.{BringsReply, FrameMasterState, IsReceived, hand_received, sendings_of}
 use Rattle.hart_master.specs.declared.frame_event.FrameEvent.{FrameEvent}
 use Rattle.hart_master.specs.declared.frame_event.FrameEvent.TheVariants as events

@@ -1,6 +1,5 @@
 //! Tests of `request`, whose words name the fields of the data.
 
-mod dates;
 mod refused;
 
 use super::call::{Call, Named};

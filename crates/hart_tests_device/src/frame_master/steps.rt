@@ -1,10 +1,5 @@
 //! What a master over frames does, call by call.
-use super::bodies::*;
-use super::{Held, shows, submits};
-use hart_frame::decode;
-use hart_master::*;
-use hart_rows::{hold_ok, same};
-use std::test::Fail;
+use super::*;
 
 /// A call of a master with one request in hand.
 enum Call<'a> {

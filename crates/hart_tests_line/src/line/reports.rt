@@ -1,5 +1,4 @@
 //! Reports in full: what each register holds at the end, and each spoken frame.
-use super::carried::{carried_out, new_device};
 use super::*;
 use hart_commands::Register;
 use hart_device::{FieldRegisters, RegisterStore};

@@ -1,5 +1,4 @@
 //! Scripts of many kinds and lengths. All of these scripts are carried out if there is enough memory.
-use super::carried::{carried_out, new_device};
 use super::*;
 use hart_commands::Request;
 use hart_device::FieldRegisters;

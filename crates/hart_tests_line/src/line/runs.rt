@@ -1,5 +1,4 @@
 //! Scripts that are carried out on the bench device.
-use super::carried::{carried_out, new_device};
 use super::*;
 use hart_commands::{Register, Reply};
 use hart_device::{Device, FieldRegisters, Image, ImageRegisters, RegisterStore, bench};

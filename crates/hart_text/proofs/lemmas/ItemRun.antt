@@ -7,7 +7,7 @@ use Rattle.hex.specs.Hex.{is_hex_digit}
 use Rattle.hart_frame.specs.heard.Character.{Character, faultless}
 use Rattle.hart_text.specs.Digits.{AreDigitsOf}
 use Rattle.hart_text.specs.Item.{Plain}
-use Rattle.hart_text.specs.DigitLanes.{AreLeading, ArePairLanes, AreSeparatorLanes}
+use Rattle.hart_text.specs.Digits.{AreLeading, ArePairLanes, AreSeparatorLanes}
 use Rattle.hart_text.specs.Items.{BeginsWith, IsSeparator, Item, ReadsUpTo, Separator, nothing, piece}
 use Rattle.hart_text.proofs.lemmas.Items.{ReadsUpTo-on}
 use Rattle.hart_text.proofs.lemmas.Lanes.{both}

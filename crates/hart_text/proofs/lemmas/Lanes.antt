@@ -11,7 +11,7 @@ use Rattle.std.proofs.lemmas.Simd.{Each1-get_or, bit_mask_l, get_or-zip2, length
 use Rattle.std.specs.Int.{bit_at, trailing_ones}
 use lib.Lanes.{Each1, mask_l, pick_l, sel_l, top, zip2}
 use Rattle.hart_text.specs.Item.{byte_of, hex_value}
-use Rattle.hart_text.specs.DigitLanes.{AreLeading, IsMask}
+use Rattle.hart_text.specs.Digits.{AreLeading, IsMask}
 
 -- There are sixteen lanes, and each holds a byte.
 abbrev pub AreBytes : List ℕ → Type 0

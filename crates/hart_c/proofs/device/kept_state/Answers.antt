@@ -2,7 +2,7 @@ use Rattle.std.proofs.Common.{◌≡◌, ◌≤◌, Bool, Err, arith, inl, inr, 
 use Rattle.std.proofs.lemmas.Grind.{common_steps}
 use Rattle.hart_values.specs.declared.each_master.EachMaster.{EachMaster}
 use Rattle.hart_device.specs.Identity.{AreIdentityParts}
-use Rattle.hart_device.specs.image.Image.{IsImageFault, IsImageOf}
+use Rattle.hart_device.specs.Image.{IsImageFault, IsImageOf}
 use Rattle.hart_device.specs.declared.fault.DeviceFault.{DeviceFault}
 use Rattle.hart_device.proofs.lemmas.Laws.{devices_are_kept_whole-any_cold_start}
 use Rattle.hart_c.specs.Device.{image_in}

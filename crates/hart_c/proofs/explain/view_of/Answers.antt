@@ -1,6 +1,6 @@
 use Rattle.std.proofs.Common.{arith, refl}
 use Rattle.std.proofs.lemmas.Grind.{common_steps}
-use Rattle.hart_c.proofs.Explained.{found_in_message}
+use Rattle.hart_c.proofs.Shown.{found_in_message}
 use Rattle.hart_c.proofs.explain.view_of.Goals as goal
 
 pub unwrap-requires : goal.unwrap-requires

@@ -26,7 +26,7 @@ use Rattle.hart_c.proofs.Checks.{AreSound, first_none, first_one, needs-sound, r
 use Rattle.hart_c.specs.declared.reason.Unaccepted.{Unaccepted}
 use Rattle.hart_c.proofs.Accepted.{not_accepted, not_judged, one_judged, one_reason}
 use Rattle.hart_c.proofs.Kept.{devices_are_kept-one_state, state_sound}
-use Rattle.hart_c.proofs.Said.{one_message, one_outcome, one_said, said_fits}
+use Rattle.hart_c.proofs.Checks.{one_message, one_outcome, one_said, said_fits}
 use Rattle.hart_c.proofs.laws.calls_have_one_outcome.Goals.{After-bytes_have_one_image_fault}
 use Rattle.hart_c.proofs.laws.calls_have_one_outcome.Goals as goal
 

@@ -8,7 +8,7 @@ use Rattle.hart_commands.specs.declared.register.Register.TheVariants.{Mode, Pol
 use Rattle.hart_device.specs.Device.{DeviceState}
 use Rattle.hart_device.specs.Identity.{two_bytes}
 use Rattle.hart_device.specs.declared.identity_parts.IdentityParts.{IdentityParts}
-use Rattle.hart_device.specs.image.Image.{flags_of}
+use Rattle.hart_device.specs.Image.{flags_of}
 use Rattle.hart_c.specs.Device.{IsKept}
 use Rattle.hart_c.specs.declared.device.HartDevice.{HartDevice}
 use Rattle.hart_c.proofs.laws.kept_bytes_are_what_they_say.Goals as goal

@@ -5,7 +5,7 @@ use Rattle.hart_c.specs.FrameMaster.{Sends, receive_checks, send_checks, submit_
 use Rattle.hart_c.specs.declared.frame_master.HartMaster.{HartMaster}
 use Rattle.hart_c.proofs.Checks.{AreSound, first_none, first_one, needs-sound, refused_if-sound}
 use Rattle.hart_c.proofs.Masters.{one_master, one_received}
-use Rattle.hart_c.proofs.Said.{one_outcome, one_said, said_fits}
+use Rattle.hart_c.proofs.Checks.{one_outcome, one_said, said_fits}
 use Rattle.hart_c.proofs.laws.masters_have_one_outcome.Goals as goal
 
 pub returns-clause-submit : goal.returns-clause-submit

@@ -15,7 +15,7 @@ use Rattle.hart_c.specs.declared.identity.HartIdentity.{HartIdentity}
 use Rattle.hart_c.specs.declared.process.HartProcess.{HartProcess}
 use Rattle.hart_c.proofs.Checks.{AreSound, first_none, first_one, needs-sound, refused_if-sound}
 use Rattle.hart_c.proofs.Kept.{devices_are_kept-one_state, state_sound}
-use Rattle.hart_c.proofs.Said.{one_outcome, one_said, said_fits}
+use Rattle.hart_c.proofs.Checks.{one_outcome, one_said, said_fits}
 use Rattle.hart_c.proofs.laws.own_commands_have_one_outcome.Goals.{After-bytes_have_one_image_fault}
 use Rattle.hart_c.proofs.laws.own_commands_have_one_outcome.Goals as goal
 

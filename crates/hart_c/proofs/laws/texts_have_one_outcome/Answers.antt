@@ -11,7 +11,7 @@ use Rattle.hart_c.specs.Texts.{pack_checks, unpack_checks}
 use Rattle.hart_c.proofs.Checks.{AreSound, first_none, first_one, needs-sound, refused_if-sound}
 use Rattle.hart_c.specs.declared.frame.HartFrame.{HartFrame}
 use Rattle.hart_c.proofs.Marked.{one_unmarked}
-use Rattle.hart_c.proofs.Said.{one_outcome}
+use Rattle.hart_c.proofs.Checks.{one_outcome}
 use Rattle.hart_c.proofs.laws.texts_have_one_outcome.Goals as goal
 
 pub returns-clause-pack : goal.returns-clause-pack

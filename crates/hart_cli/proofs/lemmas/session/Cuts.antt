@@ -7,7 +7,7 @@ use Rattle.std.proofs.lemmas.List.Elements.{All-cons, All-nil}
 use Rattle.std.proofs.lemmas.List.Splits.{slice_split_at, slice_split_none}
 use Rattle.std.specs.List.{AllByRecursion, flat_map, slice_split}
 use Rattle.std.specs.Str.Lines.{strip_carriage_return}
-use Rattle.hart_line.specs.script.Lines.{lines_of}
+use Rattle.hart_text.specs.Lines.{lines_of}
 use Rattle.hart_cli.specs.input.Input.{Ending}
 use Rattle.hart_cli.specs.session.Session.{HasLines, last_lines}
 use Rattle.hart_cli.specs.session.Server.{HasNoFeed, IsCut}

@@ -1,7 +1,7 @@
 //! The line that `hart dump` writes for a frame.
 ghost use Rattle.std.specs.Prelude.{◌≡◌, ◌∷◌, [], ◌++◌, ◌+◌, ◌<◌, ◌≤◌, ◌^◌, decimal, length};
 ghost use Rattle.hart_frame.specs.heard.Frames.{moved};
-ghost use Rattle.hart_frame.specs.scan.View.{found_of};
+ghost use Rattle.hart_frame.specs.wire.View.{found_of};
 ghost use Rattle.hart_explain.specs.Header.{address_word};
 ghost use Rattle.hart_cli.specs.dump.Text.{burst_word, dump_line, kind_word, line_room, master_word};
 

@@ -2,9 +2,9 @@ use Rattle.std.proofs.Common.{◌≡◌, ◌≢◌, ℕ, List, ◌++◌, length,
 use Rattle.std.proofs.lemmas.Grind.{common_steps}
 use Rattle.hart_commands.specs.declared.register.Register.{Register}
 use Rattle.hart_commands.specs.declared.register.Register.TheVariants.{LongTag}
-use Rattle.hart_device.specs.image.Image.{registers_of_version_1}
-use Rattle.hart_device.specs.registers.Ranges.{standing_for}
-use Rattle.hart_device.proofs.lemmas.image.Image.{bad_field, before_others, in_version_1, kept_or, no_long_tag, read_is, refused_or}
+use Rattle.hart_device.specs.Image.{registers_of_version_1}
+use Rattle.hart_device.specs.Registers.{standing_for}
+use Rattle.hart_device.proofs.lemmas.Image.{bad_field, before_others, in_version_1, kept_or, no_long_tag, read_is, refused_or}
 use Rattle.hart_device.proofs.image.read_version_1.Goals as goal
 
 pub returns-then-rest-clause-refused : goal.returns-then-rest-clause-refused

@@ -3,8 +3,8 @@ use Rattle.std.proofs.lemmas.Grind.{common_steps}
 use Rattle.hart_commands.specs.Registers.{registers}
 use Rattle.hart_commands.specs.declared.register.Register.TheVariants.{LongTag}
 use Rattle.hart_commands.proofs.lemmas.Laws.{all_registers_are_listed_once-every}
-use Rattle.hart_device.specs.registers.Ranges.{standing_for}
-use Rattle.hart_device.proofs.lemmas.image.Image.{bad_field, before_others, kept_or, read_is, refused_or}
+use Rattle.hart_device.specs.Registers.{standing_for}
+use Rattle.hart_device.proofs.lemmas.Image.{bad_field, before_others, kept_or, read_is, refused_or}
 use Rattle.hart_device.proofs.image.read_version_2.Goals as goal
 
 pub returns-then-rest-clause-refused : goal.returns-then-rest-clause-refused

@@ -1,5 +1,5 @@
 use Rattle.std.proofs.Common.{arith}
-use Rattle.hart_device.proofs.lemmas.registers.Registers.{same_contents, bytes_in-contents_by}
+use Rattle.hart_device.proofs.lemmas.Registers.{same_contents, bytes_in-contents_by}
 use Rattle.hart_device.proofs.laws.overwrites_absorb.Goals as goal
 
 pub returns : goal.returns

@@ -6,7 +6,7 @@ use Rattle.std.proofs.lemmas.Nat.Bits.{bit_at-zero}
 use Rattle.hart_frame.specs.heard.Character.{faultless}
 use Rattle.hart_frame.specs.wire.Parity.{HasEvenParity}
 use Rattle.hart_device.specs.answer.Garbled.{communication_faults, has_fault, is_odd}
-use Rattle.hart_device.proofs.lemmas.answer.Faults.{bytes_of}
+use Rattle.hart_device.proofs.lemmas.answer.Garbled.{bytes_of}
 use Rattle.hart_device.proofs.laws.whole_requests_have_the_form_of_garbled_ones.Goals as goal
 
 -- bytes without faults have no fault bit

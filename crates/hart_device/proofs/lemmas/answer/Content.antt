@@ -1,6 +1,7 @@
--- If a device replies with code 0 to a well-made request, the content of the reply is read back from its bytes.
-use Rattle.std.proofs.Common.{◌≡◌, ℕ, zero, suc, ◌*◌, ◌/◌, ◌<◌, ◌≤◌, List, [], ◌∷◌, ◌++◌, length, map, min, Some, All, get_or}
-use Rattle.std.proofs.Common.{refl, arith, append_assoc, append-nil, length-append}
+-- If a device replies with code 0 to a well-made request, the content of the reply is read back from its bytes. A device's reply to a known
+-- command is read back from its payload.
+use Rattle.std.proofs.Common.{◌≡◌, ℕ, zero, suc, ◌*◌, ◌/◌, ◌<◌, ◌≤◌, List, [], ◌∷◌, ◌++◌, length, map, min, Some, All, get_or, refl, arith}
+use Rattle.std.proofs.Common.{append_assoc, append-nil, length-append, ◌==◌, Ok, Err, Bool, true}
 use Rattle.std.proofs.lemmas.Bool.Decides.{nat_tests}
 use Rattle.std.proofs.lemmas.Grind.{common_steps}
 use Rattle.std.proofs.lemmas.List.{length-map, take_at, drop_at}
@@ -10,10 +11,10 @@ use Rattle.std.specs.List.{flat_map}
 use Rattle.std.specs.Simd.{first_chunks}
 use Rattle.hart_values.specs.declared.bits32.Bits32.{Bits32}
 use Rattle.hart_commands.specs.Parts.{content_bytes}
-use Rattle.hart_commands.specs.Registers.{AreValid}
-use Rattle.hart_commands.specs.ReplyData.{content_reading}
+use Rattle.hart_commands.specs.Registers.{AreValid, Overwrite}
+use Rattle.hart_commands.specs.ReplyData.{content_reading, reply_payload, reply_reading}
 use Rattle.hart_commands.specs.ReplyReading.{dynamic_reading, saying, tag_of, variables_reading}
-use Rattle.hart_commands.specs.RequestData.{IsRequest, command_of}
+use Rattle.hart_commands.specs.RequestData.{IsRequest, command_of, Reading}
 use Rattle.hart_commands.specs.Values.{unit_value_of, unit_value_bytes, variable_of, variable_bytes}
 use Rattle.hart_commands.specs.declared.content.ReplyContent.{ReplyContent}
 use Rattle.hart_commands.specs.declared.register.Register.{Register}
@@ -21,7 +22,7 @@ use Rattle.hart_commands.specs.declared.request.Request.{Request}
 use Rattle.hart_commands.specs.declared.value.UnitValue.{UnitValue}
 use Rattle.hart_commands.specs.declared.value.VariableReading.{VariableReading}
 use Rattle.hart_commands.proofs.lemmas.Parts.{by_spelling, joined_values, spelled, whole}
-use Rattle.hart_device.specs.Device.{DeviceState}
+use Rattle.hart_device.specs.Device.{DeviceState, Effect, Executes, after}
 use Rattle.hart_device.specs.Process.{IsFloat, IsProcess, dynamic_variables}
 use Rattle.hart_device.specs.answer.Content.{reply_content, unit_value}
 use Rattle.hart_device.specs.answer.Variables.{variable_of_code, variable_reading}
@@ -31,6 +32,16 @@ use Rattle.hart_commands.specs.Commands as commands
 use Rattle.hart_commands.specs.declared.content.ReplyContent.TheVariants as replied
 use Rattle.hart_commands.specs.declared.register.Register.TheVariants as registers
 use Rattle.hart_commands.specs.declared.request.Request.TheVariants as requested
+use Rattle.std.specs.Prelude.{if◌then◌else◌}
+use Rattle.hart_values.specs.declared.master_id.MasterId.{MasterId}
+use Rattle.hart_frame.specs.wire.FrameParts.{FrameParts}
+use Rattle.hart_commands.specs.Commands.{is_known}
+use Rattle.hart_commands.specs.RequestCode.{request_code}
+use Rattle.hart_commands.proofs.lemmas.Laws.{overwrites_are_valid}
+use Rattle.hart_commands.proofs.lemmas.RequestMade.{IsGiven, given}
+use Rattle.hart_commands.specs.NeededData.{needed_data}
+use Rattle.hart_device.specs.answer.Answer.{after_command, effect_of, judged_of, reading_of, reply_of, reply_with}
+use Rattle.hart_device.proofs.lemmas.answer.Effect.{writes_execute_their_overwrite-well_made}
 
 -- LISTS
 -- If items of `n` bytes each are written end to end, they are read back one by one.
@@ -132,3 +143,37 @@ content_again state process valid is _ made =
       sized registers.Assembly,
       sized registers.LongTag,
     )
+
+-- A frame is read as a well-made request of its command, or refused with a code from 1 to 127.
+abbrev pub IsJudged : ℕ → Reading → Type 0
+IsJudged command (Ok request) = (command_of request ≡ command) × IsRequest request
+IsJudged command (Err code) = (0 < code) × (code < 128)
+
+judged_by : (known protected : Bool) (size command counter : ℕ) (payload : List ℕ) (reading : Reading)
+    → IsGiven known size command payload reading
+    → IsJudged command (let code = request_code command reading protected counter in if code == 0 then reading else Err code)
+judged_by known protected size command counter payload reading is = grind (arith, nat_tests)
+
+reply_again : (state : DeviceState) (process : Process) (frame : FrameParts) (judged : Reading) → AreValid state.contents
+    → IsProcess process → is_known frame.command ≡ true → IsJudged frame.command judged
+    → reply_reading frame.command (reply_payload (reply_with state process frame judged)) ≡ Some (reply_with state process frame judged)
+reply_again state process frame (Ok request) valid is known made = grind (arith, common_steps, content_again)
+reply_again state process frame (Err code) valid is known made = grind (arith, nat_tests)
+
+-- If the contents of the registers are valid, they are still valid after a command.
+after_valid : (master : MasterId) (effect : Effect) (state : DeviceState)
+    → ((overwrite : Overwrite) → effect ≡ Executes overwrite → IsRequest overwrite)
+    → AreValid state.contents → AreValid (after master effect state).contents
+after_valid master (Executes overwrite) state made valid = overwrites_are_valid overwrite state.contents (made overwrite refl) valid
+after_valid master _ state made valid = valid
+
+-- The reply of a device to a known command is read as that reply.
+pub reply_read : (state : DeviceState) (process : Process) (frame : FrameParts) → AreValid state.contents → IsProcess process
+    → is_known frame.command ≡ true
+    → reply_reading frame.command (reply_payload (reply_of state process frame)) ≡ Some (reply_of state process frame)
+reply_read state process frame valid is known =
+    let made = writes_execute_their_overwrite-well_made state frame in
+    reply_again (after_command state frame) process frame (judged_of state frame)
+    (after_valid frame.master (effect_of state frame) state made valid) is known
+    (judged_by (is_known frame.command) state.protected (needed_data frame.command) frame.command state.counter frame.payload
+    (reading_of frame) (given frame.command frame.payload))

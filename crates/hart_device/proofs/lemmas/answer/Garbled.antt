@@ -1,22 +1,58 @@
--- A list of characters has at most one garbled request, and it is decided whether it has one.
-use Rattle.std.proofs.Common.{nat_lt, if◌then◌else◌, not, ◌≡◌, ◌∙◌, ℕ, ◌+◌, ◌*◌, ◌<◌, ◌%◌, ◌==◌, ◌&&◌, ◌⊎◌, inl, inr, List, [], ◌∷◌}
-use Rattle.std.proofs.Common.{◌++◌, take, drop, Bool, true, false, refl, arith, ap, Option, None, Some, MatchOption, sym, length}
+-- The communication faults of characters, bit by bit. A list of characters has at most one garbled request, and it is decided whether it
+-- has one.
+use Rattle.std.proofs.Common.{◌≡◌, ℕ, ◌+◌, ◌%◌, ◌^◌, ◌<◌, ◌==◌, not, List, [], ◌∷◌, length, map, take, get_or, count_by, refl, arith}
+use Rattle.std.proofs.Common.{bit_and, bit_xor, nat_lt, if◌then◌else◌, ◌∙◌, ◌*◌, ◌&&◌, ◌⊎◌, inl, inr, ◌++◌, drop, Bool, true, false, ap}
+use Rattle.std.proofs.Common.{Option, None, Some, MatchOption, sym}
 use Rattle.std.proofs.lemmas.Bool.Decides.{nat_tests}
 use Rattle.std.proofs.lemmas.Grind.{common_steps}
+use Rattle.std.proofs.lemmas.List.Sums.{sum_by-cons, sum_by_more}
+use Rattle.std.proofs.lemmas.Nat.Bits.{and_pow, bit_at_xor, bit_at-lt}
+use Rattle.std.specs.Int.{bit_at}
+use Rattle.std.specs.List.{list_any, list_all}
+use Rattle.hart_frame.specs.heard.Character.{Character}
+use Rattle.hart_frame.specs.wire.Parity.{bit_count}
+use Rattle.hart_device.specs.answer.Garbled.{has_fault, has_odd_bit, BeginsWithGarbled, HasGarbled, IsAsking, communication_faults}
 use Rattle.std.proofs.Math.Seq.{take-append-add}
 use Rattle.std.proofs.lemmas.List.{append_assoc, drop_at, take-append-drop, take_at}
-use Rattle.std.specs.List.{list_all}
 use Rattle.hart_values.specs.address.AddressBytes.{IsUniqueBytes, first_byte}
 use Rattle.hart_values.specs.address.DeviceNumbers.{DeviceNumbers}
 use Rattle.hart_values.specs.declared.master_id.MasterId.{MasterId}
 use Rattle.hart_values.specs.declared.master_id.MasterId.TheVariants.{Primary, Secondary}
-use Rattle.hart_frame.specs.heard.Character.{Character}
-use Rattle.hart_frame.specs.heard.Start.{IsFirstStart}
+use Rattle.hart_frame.specs.heard.Place.{IsFirstStart}
 use Rattle.hart_frame.proofs.lemmas.Laws.{first_starts_are_decided-decided, first_starts_are_decided-one}
 use Rattle.hart_device.specs.Identity.{own_numbers}
-use Rattle.hart_device.specs.answer.Garbled.{BeginsWithGarbled, HasGarbled, IsAsking, communication_faults}
 use Rattle.hart_device.specs.declared.answer.garbled.GarbledRequest.{GarbledRequest}
 use Rattle.hart_device.specs.declared.identity_parts.IdentityParts.{IdentityParts}
+
+-- a fault is heard if a character has the bit of the fault
+pub fault_found : (chars : List Character) (fault bit : ℕ) → fault ≡ 2 ^ bit
+    → list_any (λ character. not (bit_and character.faults fault == 0)) chars ≡ has_fault bit chars
+fault_found [] fault bit is = refl
+fault_found (c ∷ chars) fault bit is =
+    grind (arith, nat_tests, and_pow c.faults bit, bit_at-lt c.faults bit, fault_found chars fault bit is)
+
+-- the bytes of characters
+abbrev pub bytes_of : List Character → List ℕ
+bytes_of chars = map (λ character. character.byte) chars
+
+-- each bit of a check byte says whether an odd number of characters have the bit
+abbrev pub IsCheck : List Character → ℕ → Type 0
+IsCheck chars check = (bit : ℕ) → bit_at check bit ≡ bit_count bit (bytes_of chars) % 2
+
+-- a bit is set in as many bytes as characters have it
+counted : (bit : ℕ) (chars : List Character)
+    → bit_count bit (bytes_of chars) ≡ count_by (λ character. bit_at character.byte bit == 1) chars
+counted bit [] = refl
+counted bit (c ∷ chars) = simp (sum_by-cons, counted bit chars)
+
+-- a check byte is not 0 exactly if at least one bit is set in an odd number of characters
+pub odd_is : (chars : List Character) (check : ℕ) → IsCheck chars check → check < 256 → not (check == 0) ≡ has_odd_bit chars
+odd_is chars check is small = grind (arith, nat_tests, is 0, is 1, is 2, is 3, is 4, is 5, is 6, is 7)
+
+pub IsCheck-more : (chars : List Character) (i check : ℕ) (character : Character) → i < length chars
+    → character ≡ get_or chars i character → IsCheck (take i chars) check → IsCheck (take (i + 1) chars) (bit_xor check character.byte)
+IsCheck-more chars i check character within is checked bit =
+    grind (arith, common_steps, nat_tests, counted bit (take i chars), counted bit (take (i + 1) chars), sum_by_more, bit_at-lt, bit_at_xor)
 
 -- whether the result is the value of which `Holds` is true, or `None` if there is no such value
 abbrev pub Finds : {A : Type 0} → (A → Type 0) → Option A → Type 0

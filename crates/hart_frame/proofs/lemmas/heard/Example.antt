@@ -5,7 +5,7 @@ use Rattle.std.proofs.lemmas.List.Elements.{All-from_recursion}
 use Rattle.std.specs.List.{AllByRecursion}
 use Rattle.hart_frame.specs.heard.Character.{IsFaultBit}
 use Rattle.hart_frame.specs.heard.Damage.{HasNoTwoPreambles, IsCheckDamage, IsMarkedDamage}
-use Rattle.hart_frame.specs.heard.DamageExamples.{faulty_address, identity_request, other_address, other_request, preamble_in_body}
+use Rattle.hart_frame.specs.heard.Damage.{faulty_address, identity_request, other_address, other_request, preamble_in_body}
 use Rattle.hart_frame.proofs.lemmas.heard.Front.{faultless-one}
 use Rattle.hart_frame.proofs.lemmas.heard.Place.{preamble}
 use Rattle.hart_frame.proofs.lemmas.wire.Body.{IsBody-push}

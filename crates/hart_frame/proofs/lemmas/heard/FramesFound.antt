@@ -1,15 +1,17 @@
--- A frame stands where a body may start and a whole body stands. Every list of characters has a list of frames, and only one.
+-- A frame stands where a body may start and a whole body stands. Every list of characters has a list of frames, and only one. An open place
+-- can begin a frame.
 use Rattle.hart_frame.proofs.Common.{append_assoc, ◌≡◌, ℕ, zero, suc, ◌+◌, ◌≤◌, ◌⊎◌, inl, inr, List, [], ◌∷◌, length, take, drop, arith}
 use Rattle.hart_frame.proofs.Common.{◌++◌, length-append, refl, common_steps, take-append-drop, drop_at, Found, Character, faultless, none}
 use Rattle.hart_frame.proofs.Common.{faultless_bytes, first, AreFrames, IsFirst, bytes_from, HasBodyAt, HasFrameAt, StandsIn, IsStart}
-use Rattle.hart_frame.proofs.Common.{IsBody, BeginsWithBody, FrameParts}
-use Rattle.hart_frame.specs.heard.Place.{HasFrameUpTo}
+use Rattle.hart_frame.proofs.Common.{IsBody, BeginsWithBody, FrameParts, ◌<◌, sym, ap, ◌∙◌, All, length-map, get_or-map, map-append}
+use Rattle.hart_frame.proofs.Common.{All-from_get_or, get_or-append-add}
+use Rattle.hart_frame.specs.heard.Place.{HasFrameUpTo, IsOpen}
 use Rattle.hart_frame.proofs.lemmas.wire.Body.{head_of}
 use Rattle.hart_frame.proofs.lemmas.heard.Front.{heard_parts, regrouped, faultless_bytes-append}
-use Rattle.hart_frame.proofs.lemmas.heard.Place.{preamble, StandsIn-from, StandsIn-within, HasNoFrame-end}
-use Rattle.hart_frame.proofs.lemmas.heard.Start.{start_test}
+use Rattle.hart_frame.proofs.lemmas.heard.Place.{preamble, StandsIn-from, StandsIn-within, HasNoFrame-end, start_test}
 use Rattle.hart_frame.proofs.lemmas.wire.BodiesFound.{body_decided}
 use Rattle.hart_frame.proofs.lemmas.wire.UnambiguousBodies.{BeginsWithBody-append, bodies_are_unambiguous-one_prefix}
+use Rattle.hart_frame.proofs.lemmas.wire.Truncated.{CanBecomeBody-truncated}
 
 -- If the bytes from a place on begin with a body, a body stands at that place.
 pub body_at : (chars : List Character) (place : ℕ) (f : FrameParts) (len : ℕ) → BeginsWithBody (bytes_from chars place) f len
@@ -145,3 +147,23 @@ AreFrames-one chars from xs ys (first m f later is rest) (none n empty) = absurd
 AreFrames-one chars from xs ys (first m f later is rest) (first n g more also others) =
     let same = IsFirst-one f g chars from is also in
     let all = AreFrames-one chars f.stop later more rest (rw same others) in cc
+
+-- For each open place there are characters that, appended to the list, make a frame stand there.
+pub open_begins : (place : ℕ) (chars : List Character) → All (λ character. character.byte < 256) chars → IsOpen place chars
+    → (more : List Character) × (found : Found) × StandsIn found (chars ++ more) 0 × (found.start ≡ place)
+open_begins place chars all opened =
+    let fits = All-from_get_or (λ byte. byte < 256) opened.bytes 0 (λ k below.
+    let there = all (length opened.prefix + suc (suc k)) preamble (grind (arith, length-append, length-map)) in
+    grind (arith, get_or-append-add, get_or-map)) in
+    let can = CanBecomeBody-truncated opened.bytes fits opened.truncated in
+    let bytes = opened.bytes ++ can.rest in
+    let body = take can.count bytes in
+    let rest = faultless (drop can.count bytes) in
+    let make = λ (byte : ℕ). let c : Character = record { byte = byte; faults = 0 } in c in
+    let parts : faultless opened.bytes ++ faultless can.rest ≡ faultless body ++ rest =
+    sym (map-append make opened.bytes can.rest) ∙ ap faultless (sym (take-append-drop can.count bytes))
+    ∙ map-append make body (drop can.count bytes) in
+    let (found, stands, start, stop) =
+    frame_up_to (chars ++ faultless can.rest) opened.prefix rest body can.frame place (place + length body) can.begins.body
+    (grind (arith, append_assoc, preamble)) opened.start refl in
+    (faultless can.rest, found, stands, start)

@@ -19,7 +19,7 @@ use Rattle.hart_frame.proofs.lemmas.heard.InTheWay.{in_the_way, way_of}
 use Rattle.hart_frame.proofs.lemmas.heard.Missed.{miss_of-some, miss_of-start, none_of, one_preamble-is, one_preamble-yes}
 use Rattle.hart_frame.proofs.lemmas.heard.Place.{preamble}
 use Rattle.hart_frame.proofs.lemmas.wire.Parity.{IsCheckByte-fold, fits-is, fits_at}
-use Rattle.hart_frame.proofs.lemmas.wire.Prefix.{HasGoodByteCount-more, length_more}
+use Rattle.hart_frame.proofs.lemmas.wire.Refusal.{HasGoodByteCount-more, length_more}
 use Rattle.hart_frame.proofs.lemmas.wire.Truncated.{completed, fitted}
 
 -- At each place a whole body begins, or there is a reason why no body begins.

@@ -7,7 +7,7 @@ use Rattle.hart_frame.proofs.lemmas.heard.FramesFound.{AreFrames-earlier, body_o
 use Rattle.hart_frame.proofs.lemmas.heard.Missed.{none_of}
 use Rattle.hart_frame.proofs.lemmas.heard.Place.{StandsIn-from, preamble}
 use Rattle.hart_frame.proofs.lemmas.heard.Sighting.{after_two, not_both, IsClean, follows_from, is_other_at, is_preamble_at, same_from}
-use Rattle.hart_frame.proofs.lemmas.heard.Start.{starts_at, tested}
+use Rattle.hart_frame.proofs.lemmas.heard.Place.{starts_at, tested}
 use Rattle.std.proofs.lemmas.Grind.{flat_map-append}
 
 -- A list passes to `to` if three things hold: `given` is seen before `to`; no frame begins before `to`; and what is seen at a place from

@@ -8,7 +8,7 @@ use Rattle.hart_frame.proofs.Common.{seen_miss}
 use Rattle.hart_frame.proofs.lemmas.heard.Front.{faultless_bytes-more}
 use Rattle.hart_frame.proofs.lemmas.heard.Place.{preamble, rest_at}
 use Rattle.std.specs.Prelude.{if◌then◌else◌, is_none, nat_lt, option_map}
-use Rattle.hart_frame.proofs.lemmas.heard.Start.{tested}
+use Rattle.hart_frame.proofs.lemmas.heard.Place.{tested}
 
 -- What is seen at a place of the rest of a list is seen `n` places later in the list.
 told_moved : (n from p : ℕ) (h : Option HeaderParts) (m : Option Miss)

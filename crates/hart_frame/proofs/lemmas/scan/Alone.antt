@@ -10,7 +10,7 @@ use Rattle.hart_frame.proofs.lemmas.heard.Place.{preamble}
 use Rattle.hart_frame.proofs.lemmas.heard.Front.{faultless_bytes-end}
 use Rattle.hart_frame.proofs.lemmas.heard.Sighting.{is_none-map}
 use Rattle.hart_frame.proofs.lemmas.scan.BodyAt.{bytes_from-heard, drop-heard}
-use Rattle.hart_frame.proofs.lemmas.wire.Prefix.{length_more}
+use Rattle.hart_frame.proofs.lemmas.wire.Refusal.{length_more}
 
 -- An empty list has no two FF in a row, and any other list has them at its front or in its rest.
 pub two_none : has_two_preambles [] ≡ false

@@ -9,7 +9,7 @@ use Rattle.hart_frame.specs.declared.wire.prefix.Prefix.TheVariants.{Whole}
 use Rattle.hart_frame.specs.private.Sighting.{KeepsHeader}
 use Rattle.hart_frame.specs.scan.Sighting.{NamesPlacesBelow}
 use Rattle.hart_frame.proofs.lemmas.wire.Header.{header_sure}
-use Rattle.hart_frame.proofs.lemmas.heard.Told.{cut_told, whole_told, wrong_told}
+use Rattle.hart_frame.proofs.lemmas.heard.Missed.{cut_told, whole_told, wrong_told}
 use Rattle.hart_frame.proofs.lemmas.scan.Sighted.{heard_few}
 use Rattle.hart_frame.proofs.lemmas.wire.Reading.{wrong_within}
 

@@ -12,7 +12,7 @@ use Rattle.hart_frame.specs.private.Prefix.{fault_in, shown_by}
 use Rattle.hart_frame.proofs.lemmas.heard.Front.{bytes_of-faultless, faultless_bytes-append, faultless_bytes-end}
 use Rattle.hart_frame.proofs.lemmas.heard.Place.{StandsIn-at, StandsIn-within, preamble}
 use Rattle.hart_frame.proofs.lemmas.wire.Parity.{fits_drop}
-use Rattle.hart_frame.proofs.lemmas.wire.Prefix.{refused_more}
+use Rattle.hart_frame.proofs.lemmas.wire.Refusal.{refused_more}
 use Rattle.hart_frame.proofs.lemmas.wire.Reading.{cut_truncated, whole_has, wrong_few, wrong_fewer, wrong_refused, wrong_shown}
 use Rattle.hart_frame.proofs.lemmas.wire.Reading.{wrong_within}
 use Rattle.hart_frame.proofs.lemmas.wire.Refusal.{not_refused}

@@ -5,7 +5,7 @@ use Rattle.hart_frame.proofs.Common.{length-take, append-nil, take-map, take-tak
 use Rattle.hart_frame.proofs.Common.{Character, faultless, faultless_bytes, IsUndecided, IsSound, scan_of, Hears, Scan, GivesNothing}
 use Rattle.hart_frame.proofs.Common.{MovesPast, hearing, HoldsWhole, length-append, take-append-add, map-append, SearchResult, IsWaiting}
 use Rattle.hart_frame.proofs.Common.{held_bytes, IsSearched}
-use Rattle.hart_frame.specs.private.Chunk.{HearsPart}
+use Rattle.hart_frame.specs.private.Buffer.{HearsPart}
 use Rattle.hart_frame.specs.scan.Chunk.{StopsAt}
 use Rattle.hart_frame.proofs.lemmas.heard.Front.{front_heard}
 use Rattle.hart_frame.proofs.lemmas.scan.Buffer.{drained_is, undecided_waiting, waits_drained, held_clear}

@@ -14,8 +14,7 @@ use Rattle.hart_frame.proofs.lemmas.scan.Alone.{two_last, two_more, two_none, tw
 use Rattle.hart_frame.proofs.lemmas.scan.BodyAt.{miss_more}
 use Rattle.std.proofs.lemmas.Bool.{false_from_ne_true}
 use Rattle.hart_frame.proofs.lemmas.wire.Parity.{IsCheckByte-fold, fits-is, fits_at}
-use Rattle.hart_frame.proofs.lemmas.wire.Prefix.{good_prefix, length_more}
-use Rattle.hart_frame.proofs.lemmas.wire.Refusal.{says}
+use Rattle.hart_frame.proofs.lemmas.wire.Refusal.{good_prefix, length_more, says}
 use Rattle.hart_frame.proofs.lemmas.wire.Truncated.{completed, filled}
 
 -- A body that stands alone reaches its check byte, which fits, and no two FF in a row begin in it.

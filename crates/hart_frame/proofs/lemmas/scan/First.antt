@@ -4,8 +4,7 @@ use Rattle.hart_frame.proofs.Common.{drop, arith, refl, subst, take-length, appe
 use Rattle.hart_frame.proofs.Common.{is_some, Found, Buffer, Character, AreFrames, HasNoFrame, IsFirst, moved, Hears, scan_of, GivesNothing}
 use Rattle.hart_frame.proofs.Common.{MovesPast, hearing, IsBody, FrameParts, GivesSpan, Gives}
 use Rattle.hart_frame.specs.declared.scan.buffer.Span.{Span}
-use Rattle.hart_frame.specs.private.Decision.{body_at}
-use Rattle.hart_frame.specs.private.First.{HoldsFirst, IsFirstIn}
+use Rattle.hart_frame.specs.private.Decision.{body_at, HoldsFirst, IsFirstIn}
 use Rattle.hart_frame.specs.scan.Chunk.{StopsAt}
 use Rattle.hart_frame.specs.scan.Scanner.{finishing, new_scan}
 use Rattle.hart_frame.proofs.lemmas.heard.FramesFound.{AreFrames-found, head_first}

@@ -7,7 +7,7 @@ use Rattle.hart_frame.proofs.Common.{append_assoc, length-append, length-drop, t
 use Rattle.hart_frame.specs.heard.Sighting.{missed_at}
 use Rattle.hart_frame.specs.scan.Sighting.{AfterIsValid, is_end}
 use Rattle.hart_frame.specs.private.Sighting.{IsMessageAt, IsPassed}
-use Rattle.hart_frame.specs.scan.View.{found_of}
+use Rattle.hart_frame.specs.wire.View.{found_of}
 use Rattle.hart_frame.specs.declared.scan.view.FoundView.{FoundView}
 use Rattle.hart_frame.specs.declared.scan.sighting.Standing.TheVariants as standing
 use Rattle.hart_frame.specs.declared.scan.sighting.Standing.TheVariants.{Nothing, Open}

@@ -6,7 +6,7 @@ use Rattle.hart_frame.specs.private.Sighting.{IsSilent}
 use Rattle.std.proofs.lemmas.Bool.{cases_Bool, false_from_ne_true}
 use Rattle.hart_frame.proofs.lemmas.heard.Seen.{NoneSeen, Passes, frame_at, passes_silent}
 use Rattle.hart_frame.proofs.lemmas.heard.Sighting.{IsClean, after_one, follows_from, is_other_at, is_preamble_at, not_other, unasked}
-use Rattle.hart_frame.proofs.lemmas.heard.Start.{tested}
+use Rattle.hart_frame.proofs.lemmas.heard.Place.{tested}
 
 -- Each byte is heard at its place as a faultless character.
 chars_at : (bytes : List ℕ) (next : List Character) (i : ℕ) (d : Character) → i < length bytes

@@ -8,8 +8,7 @@ use Rattle.std.proofs.lemmas.List.Sums.{prefix_len_passes, prefix_len_stops}
 use Rattle.hart_values.specs.declared.address.Address.TheVariants.{Polling, Unique}
 use Rattle.hart_frame.specs.wire.Body.{HasNoBody}
 use Rattle.hart_frame.specs.wire.FrameParts.{IsLongEnough}
-use Rattle.hart_frame.proofs.lemmas.wire.Body.{IsBody-whole}
-use Rattle.hart_frame.proofs.lemmas.wire.Layout.{IsCheckedPart-in, length-slice_range}
+use Rattle.hart_frame.proofs.lemmas.wire.Body.{IsBody-whole, IsCheckedPart-in, length-slice_range}
 use Rattle.hart_frame.proofs.lemmas.wire.Parity.{IsCheckByte-fold, check-even, even-check, fits_at}
 use Rattle.hart_frame.proofs.lemmas.wire.Refusal.{has_check, says}
 

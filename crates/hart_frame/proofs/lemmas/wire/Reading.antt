@@ -7,7 +7,7 @@ use Rattle.hart_frame.proofs.Common.{byte_count_place, IsCheckByte, HasCheckByte
 use Rattle.hart_frame.specs.declared.wire.prefix.Prefix.TheVariants.{Whole}
 use Rattle.hart_frame.specs.declared.wire.prefix.Wrong.TheVariants.{BadCheck}
 use Rattle.hart_frame.specs.private.Prefix.{HasBadCheck, IsWholeBody, fault_in, shown_by}
-use Rattle.hart_frame.proofs.lemmas.wire.Prefix.{Describes-prefix, HasCheckByte-prefix, HasGoodByteCount-more, good_prefix, length_more}
+use Rattle.hart_frame.proofs.lemmas.wire.Refusal.{Describes-prefix, HasCheckByte-prefix, HasGoodByteCount-more, good_prefix, length_more}
 use Rattle.hart_frame.proofs.lemmas.wire.Truncated.{truncated_check, truncated_count}
 
 -- A layout describes bytes that reach their check byte.

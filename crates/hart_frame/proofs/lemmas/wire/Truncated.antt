@@ -9,8 +9,7 @@ use Rattle.std.proofs.lemmas.List.{get_or-append_right, get_or-replicate}
 use Rattle.hart_frame.specs.wire.Body.{HasNoBody, CanBecomeBody}
 use Rattle.hart_frame.proofs.lemmas.wire.BodiesFound.{held_frame}
 use Rattle.hart_frame.proofs.lemmas.wire.Body.{IsBody-push}
-use Rattle.hart_frame.proofs.lemmas.wire.Prefix.{HasGoodByteCount-more, length_more}
-use Rattle.hart_frame.proofs.lemmas.wire.Refusal.{has_check, says}
+use Rattle.hart_frame.proofs.lemmas.wire.Refusal.{HasGoodByteCount-more, length_more, has_check, says}
 
 -- Bytes become a body once their exclusive or is appended.
 abbrev pub Fitted : List ℕ → Type 0

@@ -9,7 +9,7 @@ use Rattle.hart_line.proofs.Common.{state_of, ℕ, Address, Err, MarksWithin, Re
 use Rattle.hart_line.proofs.Common.{result_submitted, submission_fault}
 use Rattle.hart_frame.specs.wire.Message.{IsPreambleCount}
 use Rattle.hart_line.proofs.lemmas.line.Leg.{AreSpoken-two, says_request, speaks_sent}
-use Rattle.hart_line.proofs.lemmas.world.Basics.{with_master-same}
+use Rattle.hart_line.proofs.Common.{with_master-same}
 use Rattle.hart_line.proofs.lemmas.world.Steps.{frame_in, none_reaches, reaches_sent, state-after}
 use Rattle.hart_master.specs.declared.fault.Rejected.{Rejected}
 use Rattle.hart_line.specs.declared.line.report.Party.TheVariants as parties

@@ -10,7 +10,7 @@ use Rattle.hart_device.proofs.lemmas.Laws.{answers_are_replies-read, registers_o
 use Rattle.hart_master.specs.Acceptance.{IsReplyTo}
 use Rattle.hart_master.proofs.lemmas.Laws.{communication_faults_are_no_reply-frame}
 use Rattle.hart_commands.proofs.lemmas.Laws.{overwrites_are_valid}
-use Rattle.hart_line.proofs.lemmas.world.Basics.{slice_get-append, slice_get-set}
+use Rattle.hart_line.proofs.Common.{slice_get-append, slice_get-set}
 use Rattle.hart_line.proofs.lemmas.world.Steps.{along, turn_cases, entered, frame_in, contents-more}
 use Rattle.hart_line.proofs.lemmas.world.Submitted.{held_in}
 

@@ -7,7 +7,7 @@ use Rattle.hart_line.proofs.Common.{length-append, IsStepOf, Submission, brought
 use Rattle.hart_line.proofs.Common.{Step, replied, spoken_request, submitted, turned, effect_on, executions_after, marks_after, state_of}
 use Rattle.hart_line.proofs.Common.{InHand, Start, Reaches, World, Execution, MarksWithin, overwrites_of}
 use Rattle.hart_device.proofs.lemmas.Laws.{registers_of_lists-last}
-use Rattle.hart_line.proofs.lemmas.world.Basics.{none_or_some, with_master-cases}
+use Rattle.hart_line.proofs.Common.{none_or_some, with_master-cases}
 
 -- WHAT IS BROUGHT
 -- The frame that is brought to the device, if any. It is the frame that was sent.

@@ -6,7 +6,7 @@ use Rattle.hart_line.proofs.Common.{MasterId, IsRequest, Effect, LineEvent, Outc
 use Rattle.hart_line.proofs.Common.{AreWellMade, IsStepOf, Submission, requests_of, submissions_of, IsLast, times_executed, effect_on}
 use Rattle.hart_line.proofs.Common.{executions_after, InHand, Start, World, first_world, Execution, state_of, submission_in, sendings_in}
 use Rattle.std.proofs.lemmas.Option.{get_or_from_slice_get, slice_get-map, slice_get_past, slice_get_within}
-use Rattle.hart_line.proofs.lemmas.world.Basics.{slice_get-append, slice_get-set, with_master-cases}
+use Rattle.hart_line.proofs.Common.{slice_get-append, slice_get-set, with_master-cases}
 use Rattle.hart_line.proofs.lemmas.world.Steps.{StepCases, Submits, Sends, Stays, along, step_cases}
 
 -- EVENT BY EVENT

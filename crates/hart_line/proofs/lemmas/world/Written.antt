@@ -13,7 +13,7 @@ use Rattle.std.proofs.lemmas.List.Folds.{Any-from_list_any}
 use Rattle.hart_commands.specs.ReplyData.{reply_reading}
 use Rattle.hart_commands.specs.RequestCode.{is_write}
 use Rattle.hart_commands.proofs.lemmas.Laws.{requests_have_their_command, writes_have_overwrites-exactly, written_data_are_their_request}
-use Rattle.hart_line.proofs.lemmas.world.Basics.{some_of}
+use Rattle.hart_line.proofs.Common.{some_of}
 use Rattle.hart_line.proofs.lemmas.world.Steps.{entered, turn_cases, Submits, Sends, Stays, along, step_cases, frame_in}
 use Rattle.hart_line.proofs.lemmas.world.Submitted.{held_in, made_of, request_there}
 

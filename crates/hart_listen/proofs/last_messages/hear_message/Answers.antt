@@ -1,6 +1,6 @@
 use Rattle.std.proofs.Common.{◌-◌, ◌+◌, ◌^◌, ◌∙◌, refl, arith, sym}
 use Rattle.hart_frame.specs.heard.Frames.{moved}
-use Rattle.hart_frame.specs.scan.View.{found_of}
+use Rattle.hart_frame.specs.wire.View.{found_of}
 use Rattle.hart_values.specs.EachMaster.{with_master}
 use Rattle.hart_values.specs.declared.master_id.MasterId.TheVariants.{Primary, Secondary}
 use Rattle.hart_listen.specs.LastMessages.{KeepsOwn}

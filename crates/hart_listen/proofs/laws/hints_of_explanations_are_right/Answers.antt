@@ -12,7 +12,7 @@ use Rattle.hart_frame.specs.wire.Parity.{IsCheckByte}
 use Rattle.hart_frame.specs.heard.InTheWay.{FollowsOnePreamble, HasBodyAt, IsInTheWay, bytes_from}
 use Rattle.hart_frame.specs.heard.Place.{HasFrameUpTo}
 use Rattle.hart_frame.specs.heard.Miss.{miss_of}
-use Rattle.hart_frame.specs.heard.Start.{IsStart}
+use Rattle.hart_frame.specs.heard.Place.{IsStart}
 use Rattle.hart_frame.specs.heard.Sighting.{Missed, miss_in_whole, missed, seen_miss, two_begin_in_body}
 use Rattle.hart_frame.specs.wire.Header.{HeaderParts}
 use Rattle.hart_frame.proofs.lemmas.heard.Missed.{one_preamble-yes}

@@ -11,7 +11,7 @@ use Rattle.std.specs.Str.Parse.{digits_value, without_leading_plus}
 use Rattle.hex.proofs.HexLemmas.{decode_of-encode_upper}
 use Rattle.jiff.proofs.Family.{parse_date-date_text}
 use Rattle.jiff.specs.Words.{IsDate, parse_date}
-use Rattle.hart_values.proofs.lemmas.hart_date.Calendar.{IsDate-iff}
+use Rattle.hart_values.proofs.lemmas.Calendar.{IsDate-iff}
 use Rattle.hart_values.specs.hart_date.Calendar.{IsCalendarDay}
 use Rattle.hart_commands.specs.declared.fields.FieldKind.TheVariants.{Date}
 use Rattle.hart_explain.specs.Values.{day_words, two_digits}

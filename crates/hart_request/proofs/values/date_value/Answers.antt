@@ -5,7 +5,7 @@ use Rattle.std.proofs.lemmas.Int.{ints, to_z_pos}
 use Rattle.std.specs.Int.{IsInRange}
 use Rattle.jiff.specs.Words.{days_in_month, IsDate, IsYear}
 use Rattle.hart_values.specs.hart_date.Calendar.{IsCalendarDay, is_calendar_day}
-use Rattle.hart_values.proofs.lemmas.hart_date.Calendar.{IsDate-iff}
+use Rattle.hart_values.proofs.lemmas.Calendar.{IsDate-iff}
 use Rattle.hart_request.specs.Values.{year_byte}
 use Rattle.hart_request.proofs.values.date_value.Goals as goal
 

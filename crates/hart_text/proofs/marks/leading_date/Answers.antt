@@ -3,7 +3,7 @@ use Rattle.std.proofs.lemmas.Grind.{common_steps, get_or_after_one}
 use Rattle.std.proofs.lemmas.List.{take_rest}
 use Rattle.hart_text.specs.Heard.{NoMarkBegins}
 use Rattle.hart_text.specs.Items.{IsSeparator}
-use Rattle.hart_text.proofs.lemmas.LeadingMark.{IsWrong, no_mark}
+use Rattle.hart_text.proofs.lemmas.Marks.{IsWrong, no_mark}
 use Rattle.hart_text.proofs.marks.leading_date.Goals.{then-len-eq0-via-then-len-eq0, then-len-eq0-via-else-len-eq0+then-len-gt-DATE_LEN}
 use Rattle.hart_text.proofs.marks.leading_date.Goals.{then-len-eq0-via-else-len-eq0+else-len-gt-DATE_LEN+then-not-is_separator}
 use Rattle.hart_text.proofs.marks.leading_date.Goals as goal

@@ -8,7 +8,7 @@ use Rattle.hart_line.specs.declared.fault.LineFault.TheVariants.{BadLine, Memory
 use Rattle.hart_line.specs.declared.line.report.Outcome.{Outcome}
 use Rattle.hart_line.specs.declared.line.report.Spoken.{Spoken}
 use Rattle.hart_line.specs.script.Rows.{IsScript}
-use Rattle.hart_line.specs.world.Led.{Led}
+use Rattle.hart_line.specs.world.Step.{Led}
 use Rattle.hart_line.specs.world.Noted.{IsLoggedFault}
 use Rattle.hart_line.specs.world.World.{Start}
 use Rattle.hart_cli.specs.FaultText.{call_fault}

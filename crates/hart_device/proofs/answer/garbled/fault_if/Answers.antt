@@ -1,6 +1,6 @@
 use Rattle.std.proofs.Common.{◌∙◌, Bool, ap}
 use Rattle.hart_device.specs.Bits.{bit_if}
-use Rattle.hart_device.proofs.lemmas.answer.Faults.{fault_found}
+use Rattle.hart_device.proofs.lemmas.answer.Garbled.{fault_found}
 use Rattle.hart_device.proofs.answer.garbled.fault_if.Goals as goal
 
 pub returns : goal.returns

@@ -3,7 +3,7 @@ use Rattle.std.proofs.lemmas.Grind.{common_steps}
 use Rattle.std.proofs.lemmas.List.{take_all}
 use Rattle.std.proofs.lemmas.Nat.{xor_of_8}
 use Rattle.hart_device.specs.answer.Garbled.{has_odd_bit}
-use Rattle.hart_device.proofs.lemmas.answer.Faults.{IsCheck-more, odd_is}
+use Rattle.hart_device.proofs.lemmas.answer.Garbled.{IsCheck-more, odd_is}
 use Rattle.hart_device.proofs.answer.garbled.has_odd_bit.Goals as goal
 
 pub loop-character-preserved : goal.loop-character-preserved

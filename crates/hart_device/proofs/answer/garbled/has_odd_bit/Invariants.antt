@@ -1,5 +1,5 @@
 use Rattle.std.proofs.Common.{◌<◌, take}
-use Rattle.hart_device.proofs.lemmas.answer.Faults.{IsCheck}
+use Rattle.hart_device.proofs.lemmas.answer.Garbled.{IsCheck}
 use Rattle.hart_device.proofs.answer.garbled.has_odd_bit.Given as goal
 
 abbrev pub invariant-loop-character : goal.invariant-loop-character

@@ -1,9 +1,9 @@
 use Rattle.std.proofs.Common.{◌≡◌, ◌<◌, ◌^◌, arith}
 use Rattle.std.proofs.lemmas.Grind.{common_steps}
 use Rattle.std.specs.List.{slice_index_or}
-use Rattle.hart_device.specs.image.Image.{image_of}
-use Rattle.hart_device.proofs.lemmas.image.Image.{written_is}
-use Rattle.hart_device.proofs.lemmas.registers.Range.{next_register}
+use Rattle.hart_device.specs.Image.{image_of}
+use Rattle.hart_device.proofs.lemmas.Image.{written_is}
+use Rattle.hart_device.proofs.lemmas.Registers.{next_register}
 use Rattle.hart_device.proofs.device.Device.image.Goals as goal
 
 pub returns-clause-image : goal.returns-clause-image

@@ -1,5 +1,5 @@
-use Rattle.hart_device.specs.registers.Values.{values_of}
-use Rattle.hart_device.proofs.lemmas.registers.Registers.{same_contents}
+use Rattle.hart_device.specs.Registers.{values_of}
+use Rattle.hart_device.proofs.lemmas.Registers.{same_contents}
 use Rattle.hart_device.proofs.device.Device.restored.Goals as goal
 
 pub returns : goal.returns

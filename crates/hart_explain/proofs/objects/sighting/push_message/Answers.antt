@@ -1,7 +1,7 @@
 use Rattle.std.proofs.Common.{[], ◌∷◌, ◌++◌}
 use Rattle.json.specs.Print.{escape_byte}
 use Rattle.hart_frame.specs.heard.Frames.{moved}
-use Rattle.hart_frame.specs.scan.View.{found_of}
+use Rattle.hart_frame.specs.wire.View.{found_of}
 use Rattle.hart_explain.specs.Json.{count, further_member, named, word}
 use Rattle.hart_explain.specs.Message.{before_member, frame_members, message_members}
 use Rattle.hart_explain.specs.Sighting.{time_members}

@@ -1,5 +1,5 @@
 use Rattle.hart_frame.specs.heard.Frames.{moved}
-use Rattle.hart_frame.specs.scan.View.{found_of}
+use Rattle.hart_frame.specs.wire.View.{found_of}
 use Rattle.hart_explain.proofs.lemmas.SightingLengths.{message-line-fits}
 use Rattle.hart_explain.proofs.words.sighting.push_message_line.Goals as goal
 

@@ -1,6 +1,6 @@
 use Rattle.hart_frame.proofs.Common.{arith, sym}
 use Rattle.hart_frame.proofs.lemmas.heard.Front.{length-front}
-use Rattle.hart_frame.proofs.lemmas.heard.Told.{front_cut, front_whole, front_wrong, of_bytes}
+use Rattle.hart_frame.proofs.lemmas.heard.Missed.{front_cut, front_whole, front_wrong, of_bytes}
 use Rattle.hart_frame.proofs.lemmas.wire.Parity.{fits_at}
 use Rattle.hart_frame.proofs.lemmas.wire.Reading.{wrong_within}
 use Rattle.hart_frame.proofs.heard.miss.body_miss.Goals as goal

@@ -1,6 +1,6 @@
 use Rattle.hart_frame.proofs.Common.{◌≡◌, ◌<◌, ℕ, List, None, length, arith, take_rest, Character, miss_of, common_steps}
 use Rattle.hart_frame.proofs.lemmas.heard.Hint.{is_told}
-use Rattle.hart_frame.proofs.lemmas.heard.Start.{start_test, tested}
+use Rattle.hart_frame.proofs.lemmas.heard.Place.{start_test, tested}
 use Rattle.hart_frame.proofs.heard.miss.why_none.Goals as goal
 
 -- Past the end of a list there is no miss.

@@ -1,4 +1,4 @@
-use Rattle.hart_frame.proofs.lemmas.heard.Start.{no_start}
+use Rattle.hart_frame.proofs.lemmas.heard.Place.{no_start}
 use Rattle.hart_frame.proofs.heard.start.first_start.Goals as goal
 
 pub returns : goal.returns

@@ -1,4 +1,4 @@
-use Rattle.hart_frame.proofs.lemmas.heard.Start.{IsFirstStart-one, first_start_decided}
+use Rattle.hart_frame.proofs.lemmas.heard.Place.{IsFirstStart-one, first_start_decided}
 use Rattle.hart_frame.proofs.heard.start.first_starts_are_decided.Goals as goal
 
 pub returns : goal.returns

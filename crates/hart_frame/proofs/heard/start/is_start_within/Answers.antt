@@ -1,8 +1,7 @@
 use Rattle.hart_frame.proofs.Common.{◌≡◌, ◌&&◌, not, ℕ, ◌<◌, List, length, Bool, sym, ◌∙◌, arith, get_or, nat_tests, Character}
 use Rattle.std.proofs.Common.{nat_eq}
 use Rattle.std.proofs.lemmas.List.{get_or_default}
-use Rattle.hart_frame.proofs.lemmas.heard.Place.{preamble}
-use Rattle.hart_frame.proofs.lemmas.heard.Start.{is_start_from, starts_at}
+use Rattle.hart_frame.proofs.lemmas.heard.Place.{preamble, is_start_from, starts_at}
 use Rattle.hart_frame.proofs.heard.start.is_start_within.Goals as goal
 
 -- Whether two characters differ.

@@ -1,7 +1,7 @@
 use Rattle.hart_frame.proofs.Common.{arith, take_rest, moved, ◌≡◌, List, [], Found, Character, AreFrames, none, first}
 use Rattle.hart_frame.proofs.lemmas.Laws.{every_list_has_frames}
 use Rattle.hart_frame.specs.declared.scan.first.LoneFrame.{LoneFrame}
-use Rattle.hart_frame.specs.heard.Delivery.{IsLone, lone_of}
+use Rattle.hart_frame.specs.heard.Frames.{IsLone, lone_of}
 use Rattle.hart_frame.proofs.lemmas.heard.FramesFound.{AreFrames-one}
 use Rattle.hart_frame.proofs.lemmas.scan.First.{first_copied, first_later, no_later, some_first}
 use Rattle.hart_frame.proofs.scan.first.lone_frame.Goals as goal

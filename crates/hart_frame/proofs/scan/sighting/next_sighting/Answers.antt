@@ -3,7 +3,7 @@ use Rattle.hart_frame.specs.private.Sighting.{IsAsked}
 use Rattle.hart_frame.proofs.lemmas.scan.Sighted.{SilentBefore}
 use Rattle.hart_frame.proofs.lemmas.scan.NextSeen.{message_seen, message_two, missed_seen, asked_after, open_few, open_seen, passed_all}
 use Rattle.hart_frame.proofs.lemmas.scan.NextSeen.{sees, silent_before, silent_on}
-use Rattle.hart_frame.proofs.lemmas.scan.UndecidedSeen.{open_undecided, undecided_used}
+use Rattle.hart_frame.proofs.lemmas.scan.Undecided.{open_undecided, undecided_used}
 use Rattle.hart_frame.proofs.scan.sighting.next_sighting.Goals as goal
 use Rattle.hart_frame.proofs.scan.sighting.next_sighting.Goals.{In-Some}
 

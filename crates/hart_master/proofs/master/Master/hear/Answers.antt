@@ -7,7 +7,7 @@ use Rattle.hart_commands.specs.declared.reply.Reply.{Reply}
 use Rattle.hart_master.specs.Master.{DeliveryBrings, FrameBrings, IsHeard}
 use Rattle.hart_master.specs.declared.event.MasterEvent.{MasterEvent}
 use Rattle.hart_master.specs.declared.hand.Hand.{Hand}
-use Rattle.hart_master.proofs.lemmas.Decided.{acceptance_is_decided-by_its_frame}
+use Rattle.hart_master.proofs.lemmas.Laws.{acceptance_is_decided-by_its_frame}
 use Rattle.hart_master.proofs.master.Master.hear.Goals as goal
 
 -- a delivery with one frame brings what that frame brings

@@ -1,6 +1,6 @@
 use Rattle.std.proofs.Common.{◌≡◌, ◌<◌, arith}
 use Rattle.std.proofs.lemmas.Grind.{common_steps}
-use Rattle.hart_frame.specs.scan.View.{found_of}
+use Rattle.hart_frame.specs.wire.View.{found_of}
 use Rattle.hart_cli.proofs.lemmas.dump.FrameLines.{added_all, added_next, added_none, next_long}
 use Rattle.hart_cli.proofs.calls.dump.frame_lines.push_decided.Goals as goal
 

@@ -1,6 +1,6 @@
 use Rattle.std.proofs.Common.{◌≡◌, ℕ, List, [], ◌∷◌, ◌++◌, append_assoc, decimal}
 use Rattle.hart_frame.specs.heard.Frames.{moved}
-use Rattle.hart_frame.specs.scan.View.{found_of}
+use Rattle.hart_frame.specs.wire.View.{found_of}
 use Rattle.hart_explain.specs.Header.{address_word}
 use Rattle.hart_cli.specs.dump.Text.{burst_word, kind_word, master_word}
 use Rattle.hart_station.specs.Lines.{bytes_word, line_of}

@@ -1,7 +1,7 @@
 use Rattle.std.proofs.Common.{arith}
 use Rattle.std.proofs.lemmas.Grind.{common_steps}
 use Rattle.std.proofs.lemmas.Slice.{between-put_mid}
-use Rattle.hart_device.proofs.lemmas.registers.Writing.{kept_apart}
+use Rattle.hart_device.proofs.lemmas.Registers.{kept_apart}
 use Rattle.hart_device.proofs.registers.image_registers.ImageRegisters.write.Goals as goal
 
 pub returns-clause-written : goal.returns-clause-written

@@ -1,5 +1,5 @@
 use Rattle.std.proofs.Common.{arith}
-use Rattle.hart_device.proofs.lemmas.registers.Registers.{bytes_in-contents_by}
+use Rattle.hart_device.proofs.lemmas.Registers.{bytes_in-contents_by}
 use Rattle.hart_device.proofs.registers.image_registers.ImageRegistersRegisterStore.get.Goals as goal
 
 pub returns-clause-value : goal.returns-clause-value

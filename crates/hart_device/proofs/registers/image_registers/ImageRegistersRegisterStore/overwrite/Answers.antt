@@ -1,7 +1,7 @@
 use Rattle.std.proofs.Common.{ℕ, List, refl, arith, ap, sym, option_map, ◌∙◌}
 use Rattle.std.proofs.lemmas.Bool.Decides.{nat_tests}
 use Rattle.hart_commands.specs.Registers.{named_in}
-use Rattle.hart_device.proofs.lemmas.registers.Writing.{all_written, one_more}
+use Rattle.hart_device.proofs.lemmas.Registers.{all_written, one_more}
 use Rattle.hart_device.proofs.registers.image_registers.ImageRegistersRegisterStore.overwrite.Goals.{in-Some, in_default}
 use Rattle.hart_device.proofs.registers.image_registers.ImageRegistersRegisterStore.overwrite.Goals as goal
 

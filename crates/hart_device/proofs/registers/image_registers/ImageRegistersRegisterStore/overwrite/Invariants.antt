@@ -1,5 +1,5 @@
 use Rattle.hart_commands.specs.Registers.{named_in}
-use Rattle.hart_device.proofs.lemmas.registers.Writing.{AreWrittenBefore}
+use Rattle.hart_device.proofs.lemmas.Registers.{AreWrittenBefore}
 use Rattle.hart_device.proofs.registers.image_registers.ImageRegistersRegisterStore.overwrite.Given as goal
 
 abbrev pub invariant-loop-register : goal.invariant-loop-register

@@ -1,8 +1,8 @@
 use Rattle.std.proofs.Common.{arith, Some, ◌∙◌}
 use Rattle.std.proofs.lemmas.Grind.{common_steps}
 use Rattle.hart_commands.specs.Registers.{bytes_in}
-use Rattle.hart_device.specs.registers.Values.{values_of}
-use Rattle.hart_device.proofs.lemmas.registers.Writing.{all_written, one_more}
+use Rattle.hart_device.specs.Registers.{values_of}
+use Rattle.hart_device.proofs.lemmas.Registers.{all_written, one_more}
 use Rattle.hart_device.proofs.registers.image_registers.ImageRegistersRegisterStore.with.Goals as goal
 
 pub loop-register-preserved : goal.loop-register-preserved

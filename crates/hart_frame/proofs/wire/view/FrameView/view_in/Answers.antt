@@ -1,7 +1,6 @@
 use Rattle.hart_frame.proofs.Common.{◌≡◌, ◌+◌, get_or, length, arith, common_steps, slice_range, FrameParts, body_length, address_of}
 use Rattle.hart_frame.proofs.lemmas.wire.BodiesFound.{long_enough}
-use Rattle.hart_frame.proofs.lemmas.wire.Body.{IsBody-whole}
-use Rattle.hart_frame.proofs.lemmas.wire.Layout.{IsCheckedPart-in, StandsByLayout}
+use Rattle.hart_frame.proofs.lemmas.wire.Body.{IsBody-whole, IsCheckedPart-in, StandsByLayout}
 use Rattle.hart_frame.proofs.wire.view.FrameView.view_in.Goals as goal
 
 pub returns : goal.returns

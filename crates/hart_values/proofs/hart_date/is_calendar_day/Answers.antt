@@ -1,6 +1,6 @@
 use Rattle.std.proofs.Common.{◌+◌, arith}
-use Rattle.hart_values.proofs.lemmas.hart_date.Calendar.{IsDate-iff, passed_byte, passed_year}
-use Rattle.hart_values.proofs.hart_date.calendar.is_calendar_day.Goals as goal
+use Rattle.hart_values.proofs.lemmas.Calendar.{IsDate-iff, passed_byte, passed_year}
+use Rattle.hart_values.proofs.hart_date.is_calendar_day.Goals as goal
 
 pub returns-in-Ok-Ok : goal.returns-in-Ok-Ok
 returns-in-Ok-Ok c =

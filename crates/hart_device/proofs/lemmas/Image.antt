@@ -1,8 +1,7 @@
 -- What an image says of a state. An image has no fault, and it determines the state except for the identity and the cold start
 -- bits.
-use Rattle.std.proofs.Common.{◌≡◌, ◌≢◌, suc, ℕ, ◌-◌, ◌^◌, ◌<◌, ◌≤◌, ◌⊎◌, inl, inr, refl, sym, ◌∙◌, subst, arith, Bool, true, Some, List}
-use Rattle.std.proofs.Common.{[], ◌∷◌}
-use Rattle.std.proofs.Common.{◌++◌, drop, length, slice_index, Option, IfSome, IfNone, IfOk, IfErr}
+use Rattle.std.proofs.Common.{◌≡◌, ◌≢◌, suc, ℕ, ◌-◌, ◌^◌, ◌<◌, ◌≤◌, ◌⊎◌, inl, inr, refl, sym, ◌∙◌, subst, arith, Bool, true, Some, List, []}
+use Rattle.std.proofs.Common.{◌∷◌, ◌++◌, drop, length, slice_index, Option, IfSome, IfNone, IfOk, IfErr}
 use Rattle.std.proofs.lemmas.Bool.Decides.{nat_tests}
 use Rattle.std.proofs.lemmas.Grind.{common_steps, elements}
 use Rattle.std.proofs.lemmas.List.{append_cancel_left, take-append-le}
@@ -21,13 +20,10 @@ use Rattle.hart_device.specs.declared.fault.DeviceFault.{DeviceFault}
 use Rattle.hart_device.specs.declared.fault.DeviceFault.TheVariants.{BadField, BadLength, BadVersion}
 use Rattle.hart_device.specs.declared.identity_parts.IdentityParts.{IdentityParts}
 use Rattle.hart_device.specs.declared.image.ImageParts.{ImageParts}
-use Rattle.hart_device.specs.image.Image.{IsImageOf, IsImageFault, IsLongTagOf, flags_of, image_ending, image_of}
-use Rattle.hart_device.specs.image.Image.{registers_of_version, registers_of_version_1}
-use Rattle.hart_device.specs.image.ImageParts.{state_with}
-use Rattle.hart_device.specs.registers.Ranges.{HoldsInvalid, contents_in, end_of, standing_for}
-use Rattle.hart_device.specs.registers.Values.{values_of}
-use Rattle.hart_device.proofs.lemmas.registers.Range.{end_to_end, filled, length_written, written}
-use Rattle.hart_device.proofs.lemmas.registers.Registers.{bytes_in-contents_by, same_contents}
+use Rattle.hart_device.specs.Image.{IsImageOf, IsImageFault, IsLongTagOf, flags_of, image_ending, image_of, registers_of_version}
+use Rattle.hart_device.specs.Image.{registers_of_version_1, state_with}
+use Rattle.hart_device.specs.Registers.{HoldsInvalid, contents_in, end_of, standing_for, values_of}
+use Rattle.hart_device.proofs.lemmas.Registers.{end_to_end, filled, length_written, written, bytes_in-contents_by, same_contents}
 
 -- To prove a property of the list of registers of every known version, it is enough to prove it of the list of version 1 and of the list of
 -- all registers.

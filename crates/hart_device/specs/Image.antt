@@ -1,6 +1,7 @@
--- The image of a device: the bytes that are kept of the device while it is stopped (implementation choice).
+-- The image of a device: the bytes that are kept of the device while it is stopped, and the state that is read from them (implementation
+-- choice).
 use Rattle.std.specs.Prelude.{◌≡◌, ◌≢◌, ℕ, ◌+◌, ◌-◌, ◌<◌, ◌^◌, ◌⊎◌, Bool, if◌then◌else◌, ◌==◌, Option, Some, None, List, [], ◌∷◌, ◌++◌}
-use Rattle.std.specs.Prelude.{length, drop, replicate, slice_index}
+use Rattle.std.specs.Prelude.{length, drop, replicate, slice_index, false}
 use Rattle.std.specs.List.{Contains, flat_map, sum_by}
 use Rattle.hart_values.specs.packed_text.Packing.{IsPacked}
 use Rattle.hart_values.specs.declared.each_master.EachMaster.{EachMaster}
@@ -10,9 +11,11 @@ use Rattle.hart_commands.specs.declared.register.Register.TheVariants.{Polling, 
 use Rattle.hart_device.specs.declared.fault.DeviceFault.{DeviceFault}
 use Rattle.hart_device.specs.declared.fault.DeviceFault.TheVariants.{BadField, BadLength, BadVersion}
 use Rattle.hart_device.specs.Bits.{bit_if}
-use Rattle.hart_device.specs.Device.{DeviceState}
+use Rattle.hart_device.specs.Device.{DeviceState, for_both}
 use Rattle.hart_device.specs.Identity.{two_bytes}
-use Rattle.hart_device.specs.registers.Ranges.{standing_for}
+use Rattle.hart_device.specs.Registers.{standing_for, values_of}
+use Rattle.hart_device.specs.declared.identity_parts.IdentityParts.{IdentityParts}
+use Rattle.hart_device.specs.declared.image.ImageParts.{ImageParts}
 
 -- The flags of an image: bit 0 is the primary master's configuration-changed bit, bit 1 the secondary master's, and bit 2 the write
 -- protection of the device. The other bits are zero.
@@ -87,3 +90,14 @@ IsImageFault (version ∷ rest) BadField =
     (listed : List Register) × (registers_of_version version ≡ Some listed) × (length (version ∷ rest) ≡ image_length listed)
     × HasBadField listed (version ∷ rest)
 IsImageFault _ _ = ⊥
+
+-- The state of a device with this identity, these parts and clear cold start bits.
+abbrev pub state_with : IdentityParts → ImageParts → DeviceState
+state_with identity parts = record {
+  identity = identity;
+  contents = values_of parts.values;
+  counter = parts.counter;
+  changed = parts.flags.changed;
+  protected = parts.flags.protected;
+  cold_start = for_both false;
+}

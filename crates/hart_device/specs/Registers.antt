@@ -1,8 +1,24 @@
--- Where each register stands in the array of all registers (implementation choice).
-use Rattle.std.specs.Prelude.{◌≢◌, ℕ, ◌+◌, List, slice_range}
+-- The bytes of the values of the registers (HCF_SPEC-127). Where each register stands in the array of all registers (implementation
+-- choice).
+use Rattle.std.specs.Prelude.{[], ◌∷◌, ◌≢◌, ℕ, ◌+◌, List, slice_range}
+use Rattle.hart_commands.specs.RequestData.{mode_byte}
 use Rattle.hart_commands.specs.Registers.{Contents, IsValidIn, contents_by, size_of}
+use Rattle.hart_device.specs.declared.registers.values.RegisterValues.{RegisterValues}
 use Rattle.hart_commands.specs.declared.register.Register.{Register}
 use Rattle.hart_commands.specs.declared.register.Register.TheVariants.{Polling, Mode, Message, Tag, Descriptor, Date, Assembly, LongTag}
+
+-- Each register holds the bytes of its value; the polling address and the loop current mode have one byte each.
+abbrev pub values_of : RegisterValues → Contents
+values_of values = record {
+  polling = values.polling ∷ [];
+  mode = mode_byte values.mode ∷ [];
+  message = values.message;
+  tag = values.tag;
+  descriptor = values.descriptor;
+  date = values.date;
+  assembly = values.assembly;
+  long_tag = values.long_tag;
+}
 
 -- The byte of the array at which each register starts, counted from 0.
 abbrev pub start_of : Register → ℕ

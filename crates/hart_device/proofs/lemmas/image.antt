@@ -1,2 +1,0 @@
--- The image of a device.
-pub mod Image

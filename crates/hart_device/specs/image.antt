@@ -1,3 +1,0 @@
--- The image of a device.
-pub mod Image
-pub mod ImageParts

@@ -1,3 +1,0 @@
--- The registers, and the stores that hold them.
-pub mod Values
-pub mod Ranges

@@ -1,2 +1,0 @@
--- Dates.
-pub mod Calendar
