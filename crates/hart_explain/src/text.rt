@@ -66,6 +66,7 @@ pub fn push_number(text: &mut Text, number: u64)
 }
 
 /// Adds the value of a byte in decimal. For so few digits this takes fewer instructions than [`push_number`].
+#[inline(always)]
 pub fn push_byte_number(text: &mut Text, number: u8)
     ensures number { text.new ≡ extended text.old (decimal number) }
     ensures few { length (decimal number) ≤ 3 }

@@ -1,5 +1,5 @@
 //! The last request of each master, until a reply completes it.
-ghost use Rattle.std.specs.Prelude.{◌≡◌, ◌+◌, ◌-◌, ◌<◌, ◌++◌, ◌∷◌, [], ℕ, ◌^◌, IfSome, Some, false};
+ghost use Rattle.std.specs.Prelude.{◌≡◌, ◌+◌, ◌-◌, ◌<◌, ◌++◌, ◌∷◌, [], ℕ, ◌^◌, IfSome, None, Some, false};
 ghost use Rattle.hart_frame.specs.heard.Frames.{moved};
 ghost use Rattle.hart_frame.specs.heard.Sighting.{Message, moved_seen};
 ghost use Rattle.hart_frame.specs.scan.Sighting.{seen_of};
@@ -13,7 +13,8 @@ ghost use Rattle.hart_explain.specs.Sighting.{FitsFrom};
 
 use hart_explain::Before;
 use hart_frame::{FoundView, Frame, FrameKind, FrameView, Sighting};
-use hart_values::{EachMaster, MasterId};
+use hart_values::{Address, EachMaster, MasterId, Payload};
+use std::marker::Model;
 
 /// A request that was heard. All later messages of its master are replies that leave it open.
 #[derive(Drop)]
@@ -28,8 +29,27 @@ pub struct LastRequest {
     pub is_left_open: bool,
 }
 
-/// The last request of each master, if all later messages of that master are replies that leave it open.
-pub type LastMessages = EachMaster<Option<LastRequest>>;
+/// The kept request of a master, if there is one: all later messages of that master are replies that leave it open. The next request is
+/// written over it, so that no frame is moved in memory.
+#[derive(Drop)]
+pub struct KeptRequest {
+    /// The last request, whether it is kept or not.
+    request: LastRequest,
+    /// Whether the request is kept.
+    is_kept: bool,
+}
+
+impl Model for KeptRequest {
+    ghost use Rattle.std.specs.Prelude.{if◌then◌else◌, Option, None, Some};
+    ghost use Rattle.hart_listen.specs.declared.last_messages.LastRequest.{LastRequest};
+
+    ghost Value = { Option LastRequest };
+
+    ghost view = { λ it. if it.is_kept then Some it.request else None };
+}
+
+/// The kept request of each master.
+pub type LastMessages = EachMaster<KeptRequest>;
 
 /// The response code of a device that cannot carry out the command now.
 const BUSY: u8 = 32;
@@ -45,8 +65,24 @@ pub fn no_messages() -> LastMessages
     ensures { result ≡ no_messages }
 {
     EachMaster {
-        primary: None,
-        secondary: None,
+        primary: no_request(),
+        secondary: no_request(),
+    }
+}
+
+/// Returns the state of a master in which no request is kept.
+fn no_request() -> KeptRequest
+    ensures { result ≡ None }
+{
+    let address = Address::polling(0).unwrap();
+    KeptRequest {
+        request: LastRequest {
+            start: 0,
+            frame: Frame::request(MasterId::Primary, address, 0, Payload::new()),
+            sent_before: 0,
+            is_left_open: false,
+        },
+        is_kept: false,
     }
 }
 
@@ -82,7 +118,8 @@ fn hear_message(last: &mut LastMessages, first: u64, found: &FoundView<'_>) -> B
 
 /// Returns which request a frame answers, and which sending of its request it is, by the last message of its master. Makes the frame the
 /// last message of its master.
-fn hear_frame(last: &mut Option<LastRequest>, start: u64, frame: &FrameView<'_>) -> Before
+#[inline(always)]
+fn hear_frame(last: &mut KeptRequest, start: u64, frame: &FrameView<'_>) -> Before
     requires { IfSome last.old (λ request. request.sent_before < 2 ^ 64 - 2) }
     ensures answers { result.answers ≡ answered (parts_of frame.now) (listed last.old) }
     ensures sending { result.sending ≡ 1 + repeats (parts_of frame.now) (listed last.old) }
@@ -106,7 +143,7 @@ fn hear_frame(last: &mut Option<LastRequest>, start: u64, frame: &FrameView<'_>)
 /// Makes a request the last message of its master, and returns which sending of the request it is, counted from 1. A request that is the
 /// same as the last one is not copied again.
 #[tactic(auto, using(crate::proofs::lemmas::Before::repeats_same, crate::proofs::lemmas::Before::other_counted))]
-fn hear_request(last: &mut Option<LastRequest>, start: u64, frame: &FrameView<'_>) -> u64
+fn hear_request(last: &mut KeptRequest, start: u64, frame: &FrameView<'_>) -> u64
     requires { IfSome last.old (λ request. request.sent_before < 2 ^ 64 - 2) }
     ensures kept { last.new ≡ Some (record {
       start = start;
@@ -116,18 +153,22 @@ fn hear_request(last: &mut Option<LastRequest>, start: u64, frame: &FrameView<'_
     }) }
     ensures sending { result ≡ 1 + repeats (parts_of frame.now) (listed last.old) }
 {
-    if let Some(request) = last {
-        if same_request(&request.frame, frame) {
-            return repeat_request(request, start);
-        }
+    if last.is_kept && same_request(&last.request.frame, frame) {
+        return repeat_request(&mut last.request, start);
     }
-    *last = Some(LastRequest {
-        start,
-        frame: frame.to_frame(),
-        sent_before: 0,
-        is_left_open: false,
-    });
+    last.is_kept = true;
+    write_request(&mut last.request, start, frame);
     1
+}
+
+/// Writes a request, which is sent for the first time and begins at `start`, over an earlier one.
+fn write_request(request: &mut LastRequest, start: u64, frame: &FrameView<'_>)
+    ensures { request.new ≡ record { start = start; frame = parts_of frame.now; sent_before = 0; is_left_open = false } }
+{
+    request.start = start;
+    request.frame.set_view(frame);
+    request.is_left_open = false;
+    request.sent_before = 0;
 }
 
 /// Counts one more sending of a request, which begins at `start`, and returns the number of this sending.
@@ -143,28 +184,27 @@ fn repeat_request(request: &mut LastRequest, start: u64) -> u64
 }
 
 /// Returns the start of the request that a reply answers, and makes the reply the last message of its master.
-fn hear_reply(last: &mut Option<LastRequest>, frame: &FrameView<'_>) -> Option<u64>
+fn hear_reply(last: &mut KeptRequest, frame: &FrameView<'_>) -> Option<u64>
     ensures answers { result ≡ answered (parts_of frame.now) (listed last.old) }
     ensures kept { last.new ≡ after_reply last.old (parts_of frame.now) }
 {
-    let answers = match last {
-        Some(request) => answered(request, frame),
-        None => None,
+    let answers = if last.is_kept {
+        answered(&last.request, frame)
+    } else {
+        None
     };
     keep_reply(last, frame);
     answers
 }
 
-/// Makes a reply the last message of its master. A reply that does not leave the last request open ends it: `last` becomes `None`.
-fn keep_reply(last: &mut Option<LastRequest>, frame: &FrameView<'_>)
+/// Makes a reply the last message of its master. A reply that does not leave the last request open ends it, so that no request is kept.
+fn keep_reply(last: &mut KeptRequest, frame: &FrameView<'_>)
     ensures { last.new ≡ after_reply last.old (parts_of frame.now) }
 {
-    if let Some(request) = last {
-        if leaves_open(&request.frame, frame) {
-            request.is_left_open = true;
-        } else {
-            *last = None;
-        }
+    if last.is_kept && leaves_open(&last.request.frame, frame) {
+        last.request.is_left_open = true;
+    } else {
+        last.is_kept = false;
     }
 }
 

@@ -14,6 +14,7 @@ use hart_frame::FrameKind;
 use hart_values::{Address, MasterId};
 
 /// Adds the words of a header: who speaks to whom, and the command.
+#[inline(always)]
 pub(crate) fn push_header(
     text: &mut Text,
     pairs: &Pairs,
@@ -32,6 +33,7 @@ pub(crate) fn push_header(
 }
 
 /// Adds a number in decimal, and its name after it, if it has one.
+#[inline(always)]
 pub(crate) fn push_named_number(text: &mut Text, number: u8, name: Option<&str>)
     ensures { text.new ≡ extended text.old (named_number number (option_map (λ name. name.now) name.entry)) }
 {
@@ -79,6 +81,7 @@ fn push_to(text: &mut Text, master: MasterId)
 
 /// Adds the words of an address. The words of the broadcast address are the argument `broadcast`.
 #[tactic(auto, using(crate::proofs::lemmas::SightingLengths::addresses))]
+#[inline(always)]
 fn push_device(text: &mut Text, pairs: &Pairs, broadcast: &str, address: Address)
     ensures words { text.new ≡ extended text.old (device_words broadcast.now address) }
     ensures short { length (address_word address) ≤ 21 }

@@ -1,8 +1,9 @@
 //! Functions that write a new frame over an old frame, so that no frame is moved in memory.
 ghost use Rattle.std.specs.Prelude.{◌≡◌, ◌≤◌, length};
 ghost use Rattle.hart_frame.specs.wire.FrameParts.{reply_parts, request_parts};
+ghost use Rattle.hart_frame.specs.wire.View.{parts_of};
 
-use crate::{Frame, FrameKind};
+use crate::{Frame, FrameKind, FrameView};
 use hart_values::{Address, MasterId, Payload};
 
 impl Frame {
@@ -41,5 +42,20 @@ impl Frame {
         self.command = request.command;
         self.payload.clear();
         self.payload.extend_from_slice(payload.as_slice());
+    }
+
+    /// Overwrites this frame with the frame that [`FrameView::to_frame`] returns for this view.
+    pub fn set_view(&mut self, view: &FrameView<'_>)
+        ensures { self.new ≡ parts_of view.now }
+    {
+        self.kind = view.kind();
+        self.master = view.master();
+        self.burst = view.burst();
+        self.address = view.address();
+        self.expansion.clear();
+        self.expansion.extend_from_slice(view.expansion());
+        self.command = view.command();
+        self.payload.clear();
+        self.payload.extend_from_slice(view.payload());
     }
 }

@@ -9,7 +9,7 @@ use Rattle.hart_listen.proofs.last_messages.hear_request.Goals as goal
 pub returns-then-same_request-clause-kept : goal.returns-then-same_request-clause-kept
 returns-then-same_request-clause-kept c =
     let frame = parts_of c.args.frame.now in
-    let test : same_request c.in-Some.request.frame frame ≡ true = grind (arith, common_steps) in
-    let counted = repeats_same c.in-Some.request frame test in
-    let same = request_same c.in-Some.request.frame frame test in
+    let test : same_request c.last.inside.request.frame frame ≡ true = grind (arith, common_steps) in
+    let counted = repeats_same c.last.inside.request frame test in
+    let same = request_same c.last.inside.request.frame frame test in
     rw c.repeat_request.ensures.counted (grind (arith, common_steps, counted, same))
