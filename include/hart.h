@@ -248,13 +248,13 @@ hart_outcome hart_comm_fault_name(uint8_t bit, uint8_t *output, hart_size output
 /* The styles of explanations, and their greatest length. */
 enum {
     HART_WORDS = 0,            /* in words: a line for the header, and a line for each thing that the message says */
-    HART_JSON = 1,             /* one object of JSON in one line, as docs/explain.schema.json describes it */
+    HART_JSON = 1,             /* one object of JSON in one line, as docs/explain.schema.json says, without `preambles` */
     HART_EXPLAINED_LEN = 16384 /* room for the explanation of any message */
 };
 
 /* Writes what a message means to the front of `output`, without a final 0, and returns its length. These are the lines that the program
- * `hart explain` writes of this message if it hears no other one: in JSON a request has `sending` 1, and a reply `answers` null. The last
- * byte is a line feed. The places are `start` and `stop` of the frame.
+ * `hart explain` writes of this message if it hears no other one: in JSON a request has `sending` 1, and a reply `answers` null. Only
+ * `preambles` is left out. The last byte is a line feed. The places are `start` and `stop` of the frame.
  * Faults: HART_BAD_ADDRESS, HART_LONG_EXPANSION, HART_TOO_SHORT_REPLY, HART_BAD_STYLE, HART_NO_ROOM. */
 hart_outcome hart_explain(uint8_t style, const hart_frame *frame, uint8_t *output, hart_size output_len);
 

@@ -144,7 +144,7 @@ refuse_each 0 explain --raw
 
 # The same message as an object.
 cat >"$work/wanted" <<'TEXT'
-{"type":"message","start":2,"stop":7,"kind":"request","master":"primary","address":"@0","burst":false,"expansion":"","command":0,"command_name":"read unique identifier","data":"","fields":{},"ignored":"","problem":null,"sending":1}
+{"type":"message","start":2,"stop":7,"preambles":2,"kind":"request","master":"primary","address":"@0","burst":false,"expansion":"","command":0,"command_name":"read unique identifier","data":"","fields":{},"ignored":"","problem":null,"sending":1}
 TEXT
 refuse_each 0 explain --raw --json
 
@@ -219,7 +219,7 @@ run 0
 dump 0 58
 explain 0 240
 explain_raw 0 0
-explain_json 0 518
+explain_json 0 546
 explain_raw_json 0 0
 answer 0 102
 answer with an image 0 102

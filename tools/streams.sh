@@ -144,13 +144,13 @@ identified='"address":"@0","burst":false,"expansion":"","command":0,"command_nam
 identified=$identified',"data":"","fields":{},"ignored":"","problem":null'
 of_primary='"kind":"request","master":"primary"'
 seems_write="{$of_primary,\"address\":\"37420A1B2C\",\"command\":19,\"command_name\":\"write final assembly number\"}"
-says_byte_by_byte 'FF FF 02 80 00 00 82 ' "{\"type\":\"message\",\"start\":2,\"stop\":7,$of_primary,$identified,\"sending\":1}"
+says_byte_by_byte 'FF FF 02 80 00 00 82 ' "{\"type\":\"message\",\"start\":2,\"stop\":7,\"preambles\":2,$of_primary,$identified,\"sending\":1}"
 says_byte_by_byte '@12:00:01 FF FF 02 80 00 00 82/' \
-    "{\"type\":\"message\",\"time\":\"12:00:01\",\"start\":9,\"stop\":14,$of_primary,$identified,\"sending\":2}"
+    "{\"type\":\"message\",\"time\":\"12:00:01\",\"start\":9,\"stop\":14,\"preambles\":2,$of_primary,$identified,\"sending\":2}"
 says_byte_by_byte 'FFFF02/' '{"type":"miss","time":"12:00:01","start":16,"place":16,"reason":"ends_before_byte_count","seems":null}'
 printf 'FFFF82B7420A1B2C13FFFFFFFFFFFF0280000082' >&3
 says_byte_by_byte '00!40 ' '{"type":"miss","time":"12:00:01","start":19,"place":19,"reason":"faulty","at":37,"faults":"40","seems":'"$seems_write}
-{\"type\":\"message\",\"time\":\"12:00:01\",\"start\":32,\"stop\":37,$of_primary,$identified,\"sending\":3}"
+{\"type\":\"message\",\"time\":\"12:00:01\",\"start\":32,\"stop\":37,\"preambles\":6,$of_primary,$identified,\"sending\":3}"
 ends_at_bad_hex 105
 
 # A serving device answers each line with a line before it reads on, and stays the same device all the time.
@@ -297,7 +297,7 @@ ends_long "5599988-5599993: $identify, sending 400000
 5599995: no message: the check byte is 0x83 at 5599999, and 0x82 would fit
     seems: $identify" explain
 seems_identify="{$of_primary,\"address\":\"@0\",\"command\":0,\"command_name\":\"read unique identifier\"}"
-ends_long "{\"type\":\"message\",\"start\":5599988,\"stop\":5599993,$of_primary,$identified,\"sending\":400000}
+ends_long "{\"type\":\"message\",\"start\":5599988,\"stop\":5599993,\"preambles\":2,$of_primary,$identified,\"sending\":400000}
 {\"type\":\"miss\",\"start\":5599995,\"place\":5599995,\"reason\":\"bad_check\",\"at\":5599999,\"byte\":\"83\",\"fits\":\"82\",\"seems\":$seems_identify}" \
     explain --json
 

@@ -126,7 +126,7 @@ def miss_lines(miss):
 def explained(heard):
     """What is said of characters, silences and dates. A date stands before the first line of what is said of a place."""
     text, masters = "", Masters()
-    for seen, date in sightings(heard):
+    for seen, date, _ in sightings(heard):
         lines = miss_lines(seen) if isinstance(seen, Miss) else message_lines(seen, masters)
         text += (f"{date} " if date else "") + "".join(f"{line}\n" for line in lines)
     return text.encode()

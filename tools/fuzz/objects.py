@@ -97,13 +97,14 @@ def data_members(frame):
     }
 
 
-def message_object(found, time, masters):
+def message_object(found, time, preambles, masters):
     """The object of a message."""
     frame, (sending, answers) = found.frame, masters.hear(found)
     return {
-        "type": "message", **time, "start": found.start, "stop": found.stop, **header_members(frame), "burst": bool(frame.burst),
-        "expansion": hex_digits(frame.expansion), **command_members(frame), **(status_members(frame) if frame.kind == "ACK" else {}),
-        **data_members(frame), **({"sending": sending} if frame.kind == "STX" else {"answers": answers})}
+        "type": "message", **time, "start": found.start, "stop": found.stop, "preambles": preambles, **header_members(frame),
+        "burst": bool(frame.burst), "expansion": hex_digits(frame.expansion), **command_members(frame),
+        **(status_members(frame) if frame.kind == "ACK" else {}), **data_members(frame),
+        **({"sending": sending} if frame.kind == "STX" else {"answers": answers})}
 
 
 def miss_object(miss, time):
@@ -117,7 +118,7 @@ def object_of(sighting, masters):
     """The object of a sighting."""
     time = {} if sighting.date is None else {"time": sighting.date}
     if isinstance(sighting.seen, Found):
-        return message_object(sighting.seen, time, masters)
+        return message_object(sighting.seen, time, sighting.preambles, masters)
     return miss_object(sighting.seen, time)
 
 

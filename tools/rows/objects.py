@@ -12,22 +12,22 @@ SEEMS_WRITE = '"seems":{"kind":"request","master":"primary","address":"37420A1B2
 NUMBER = '"data":"012345","fields":{"final_assembly_number":"012345"},"ignored":"","problem":null'
 
 
-def identify(start, sending=1, master="primary", time=""):
+def identify(start, sending=1, master="primary", time="", preambles=2):
     """The object of a request of Command 0 that begins at a place."""
-    return (f'{{"type":"message",{time}"start":{start},"stop":{start + 5},"kind":"request","master":"{master}",{IDENTIFIES},'
-            f'"sending":{sending}}}\n')
+    return (f'{{"type":"message",{time}"start":{start},"stop":{start + 5},"preambles":{preambles},"kind":"request","master":"{master}",'
+            f'{IDENTIFIES},"sending":{sending}}}\n')
 
 
 def write(start, sending):
     """The object of the request of Command 19."""
-    return (f'{{"type":"message","start":{start},"stop":{start + 12},"kind":"request","master":"primary",{WRITES},{NUMBER},'
+    return (f'{{"type":"message","start":{start},"stop":{start + 12},"preambles":2,"kind":"request","master":"primary",{WRITES},{NUMBER},'
             f'"sending":{sending}}}\n')
 
 
 def written(start, answers):
     """The object of the reply to it."""
-    return (f'{{"type":"message","start":{start},"stop":{start + 14},"kind":"reply","master":"primary",{WRITES},"status":"0040",'
-            '"response_code":0,"response":"success","device_status":["configuration changed"],"communication_faults":null,'
+    return (f'{{"type":"message","start":{start},"stop":{start + 14},"preambles":2,"kind":"reply","master":"primary",{WRITES},'
+            '"status":"0040","response_code":0,"response":"success","device_status":["configuration changed"],"communication_faults":null,'
             f'{NUMBER},"answers":{answers}}}\n')
 
 
@@ -41,8 +41,8 @@ STATUS = {
 
 def left(start, status, answers):
     """The object of a reply to it that has only these status bytes."""
-    return (f'{{"type":"message","start":{start},"stop":{start + 11},"kind":"reply","master":"primary",{WRITES},"status":"{status}",'
-            f'{STATUS[status]},"data":"","fields":{{}},"ignored":"","problem":null,"answers":{answers}}}\n')
+    return (f'{{"type":"message","start":{start},"stop":{start + 11},"preambles":2,"kind":"reply","master":"primary",{WRITES},'
+            f'"status":"{status}",{STATUS[status]},"data":"","fields":{{}},"ignored":"","problem":null,"answers":{answers}}}\n')
 
 
 def unlisted(start, status, answers):
@@ -60,10 +60,10 @@ HEARD_WRONG, BUSY_WRONG = "FF FF 86 B7 42 0A 1B 2C 7F 02 88 00 BB ", "FF FF 86 B
 FAULTY_ELSEWHERE = "FF FF 86 B7 42 0A 1B 2D 13 02 88 00 D6 "
 WRITTEN = "FF FF 86 B7 42 0A 1B 2C 13 05 00 40 01 23 45 7F "
 # What comes before the data in a reply to Command 12, and in a request of Command 22.
-MESSAGE = '{"type":"message","start":2,"stop":37,"kind":"reply","master":"primary","address":"37420A1B2C","burst":false,"expansion":"",' \
-    '"command":12,"command_name":"read message","status":"0000","response_code":0,"response":"success","device_status":[],' \
+MESSAGE = '{"type":"message","start":2,"stop":37,"preambles":2,"kind":"reply","master":"primary","address":"37420A1B2C","burst":false,' \
+    '"expansion":"","command":12,"command_name":"read message","status":"0000","response_code":0,"response":"success","device_status":[],' \
     '"communication_faults":null,'
-LONG_TAG = '{"type":"message","start":2,"stop":43,"kind":"request","master":"primary","address":"37420A1B2C","burst":false,' \
+LONG_TAG = '{"type":"message","start":2,"stop":43,"preambles":2,"kind":"request","master":"primary","address":"37420A1B2C","burst":false,' \
     '"expansion":"","command":22,"command_name":"write long tag",'
 
 # The message with the longest object: a date of quotes, expansion bytes, each bit of the device status, an identity, and the most
@@ -72,10 +72,11 @@ IGNORED = "22" * 231
 LONGEST = (
     "@" + '"' * 32 + " FF FF E6 F7 42 0A 1B 2C 55 AA 55 15 FF 00 FF FE 37 42 05 07 01 02 18 00 0A 1B 2C 05 04 00 01 00 00 37 00 37 01"
     + f" {IGNORED} 5D",
-    '{"type":"message","time":"' + '\\"' * 32 + '","start":2,"stop":269,"kind":"reply","master":"primary","address":"37420A1B2C",'
-    '"burst":true,"expansion":"55AA55","command":21,"command_name":"read unique identifier associated with long tag","status":"00FF",'
-    '"response_code":0,"response":"success","device_status":["device malfunction","configuration changed","cold start",'
-    '"more status available","loop current fixed","loop current saturated","non-primary variable out of limits",'
+    '{"type":"message","time":"' + '\\"' * 32 + '","start":2,"stop":269,"preambles":2,"kind":"reply","master":"primary",'
+    '"address":"37420A1B2C","burst":true,"expansion":"55AA55","command":21,'
+    '"command_name":"read unique identifier associated with long tag","status":"00FF","response_code":0,"response":"success",'
+    '"device_status":["device malfunction","configuration changed","cold start","more status available",'
+    '"loop current fixed","loop current saturated","non-primary variable out of limits",'
     '"primary variable out of limits"],'
     f'"communication_faults":null,"data":"FE37420507010218000A1B2C05040001000037003701{IGNORED}","fields":{{"first_byte":254,'
     '"expanded_device_type":"3742","preamble_bytes_of_a_request":5,"protocol_revision":7,"device_revision":1,"software_revision":2,'
@@ -123,6 +124,15 @@ ROWS = (
     (
         BY_PRIMARY + "FF FF 02 C0 00 00 C2 " + BY_PRIMARY,
         identify(2) + identify(9).replace('"burst":false', '"burst":true') + identify(16),
+        "",
+    ),
+    # Preamble bytes: some, as many as are never held at once, and those after a check byte FF, a damaged character and a silence.
+    ("FF 00" + " FF" * 5 + " 02 80 00 00 82", identify(7, preambles=5), ""),
+    ("FF" * 9000 + BY_PRIMARY + "FF" * 300 + BY_PRIMARY, identify(9002, preambles=9002) + identify(9309, 2, preambles=302), ""),
+    (
+        "FF FF 02 80 7D 00 FF FF FF FF 02 80 00 00 82 FF!40 FF FF FF 02 80 00 00 82 FF/FF FF 02 80 00 00 82",
+        identify(2).replace('"command":0,"command_name":"read unique identifier"', '"command":125,"command_name":null')
+        + identify(10, preambles=3) + identify(19, 2, preambles=3) + identify(27, 3),
         "",
     ),
     # A date is a string, in which quotes and backslashes are escaped.
@@ -174,6 +184,7 @@ FAILED_READS = (
 RAW_ROWS = (
     (b"", "", ""),
     (bytes.fromhex(BY_PRIMARY * 2), identify(2) + identify(9, 2), ""),
+    (b"\xff" * 20000 + bytes.fromhex(BY_PRIMARY), identify(20002, preambles=20002), ""),
     (b"@a /" + bytes.fromhex(BY_PRIMARY), identify(6), ""),
 )
 

@@ -14,9 +14,10 @@ use Rattle.hart_c.specs.declared.{fault.HartOutcome.HartOutcome, frame.HartFrame
 abbrev pub IsStyle : ℕ → Type 0
 IsStyle style = style ≤ 1
 
--- No message was heard before: a request is sent for the first time, and a reply answers no request.
+-- No message was heard before: a request is sent for the first time, and a reply answers no request. The number of preamble bytes is not
+-- known.
 abbrev pub nothing_before : Before
-nothing_before = record { answers = None; sending = 1 }
+nothing_before = record { answers = None; sending = 1; preambles = None }
 
 -- The text of a message that is heard alone is its paragraph in words, or its line of JSON.
 abbrev pub explained : ℕ → Found → List ℕ

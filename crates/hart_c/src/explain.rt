@@ -29,8 +29,8 @@ pub const HART_JSON: u8 = 1;
 pub const HART_EXPLAINED_LEN: u32 = 16384;
 
 /// Writes what a message means to the front of `output`, in words or as a line of JSON, without a final zero byte. The text is what
-/// `hart explain` writes of the message if it hears no other message. Returns its length; [`HART_EXPLAINED_LEN`] bytes are enough for any
-/// text.
+/// `hart explain` writes of the message if it hears no other message, but without `preambles`: a frame does not say how many preamble bytes
+/// were heard. Returns its length; [`HART_EXPLAINED_LEN`] bytes are enough for any text.
 ///
 /// # Errors
 ///
@@ -100,6 +100,7 @@ fn push_explanation(text: &mut Text, style: u8, start: u64, stop: u64, frame: Fr
     let before = Before {
         answers: None,
         sending: 1,
+        preambles: None,
     };
     if style == HART_WORDS {
         push_sighting(text, &pairs, &[], 0, before, &message);

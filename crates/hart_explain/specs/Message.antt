@@ -68,9 +68,14 @@ frame_members frame =
     ++ (named "burst" (boolean frame.burst) ∷ named "expansion" (hex frame.expansion) ∷ command_members frame.command)
     ++ payload_members frame.kind frame.command frame.payload
 
--- The members of a message: the place of its delimiter, the place after its check byte, what its frame says, and what is known from earlier
--- messages.
+-- The member of the number of preamble bytes of a message. If the number is not known, there is no member.
+abbrev pub preambles_members : Option ℕ → List Named
+preambles_members None = []
+preambles_members (Some preambles) = named "preambles" (count preambles) ∷ []
+
+-- The members of a message: the place of its delimiter, the place after its check byte, the number of its preamble bytes, what its frame
+-- says, and what is known from earlier messages.
 abbrev pub message_members : Before → Found → List Named
 message_members before found =
     named "start" (count found.start) ∷ named "stop" (count found.stop)
-    ∷ frame_members found.frame ++ before_member found.frame.kind before ∷ []
+    ∷ preambles_members before.preambles ++ (frame_members found.frame ++ before_member found.frame.kind before ∷ [])

@@ -27,8 +27,8 @@ abbrev pub time_members : List ℕ → List Named
 time_members [] = []
 time_members (byte ∷ word) = named "time" (string (byte ∷ word)) ∷ []
 
--- A sighting as an object: a message or a miss, with the date of its place. For a message, the object also has what is known from earlier
--- messages.
+-- A sighting as an object: a message or a miss, with the date of its place. For a message, the object also has what is known from what was
+-- heard before it.
 abbrev pub data_of : List ℕ → Before → Seen → Data
 data_of date before (Message found) =
     object_of (named "type" (word "message") ∷ time_members date ++ message_members before found)

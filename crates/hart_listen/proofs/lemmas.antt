@@ -11,6 +11,8 @@ pub mod InStretches
 pub mod Same
 pub mod Before
 pub mod Dated
+pub mod Preambles
+pub mod Held
 pub mod Stands
 pub mod Listener
 pub mod Grow

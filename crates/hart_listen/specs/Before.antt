@@ -93,12 +93,12 @@ abbrev pub repeats : FrameParts → List Found → ℕ
 repeats frame messages =
     prefix_len (λ message. same_request message.frame frame) (filter (λ message. not (leaves_open frame message.frame)) messages)
 
--- What the earlier sightings say of a sighting. Only messages of the same master count.
+-- What the earlier sightings say of a sighting. Only messages of the same master count. They do not say how many preamble bytes it has.
 abbrev pub before_of : List Seen → Seen → Before
 before_of earlier (Message found) =
     let messages = messages_back found.frame.master earlier in
-    record { answers = answered found.frame messages; sending = 1 + repeats found.frame messages }
-before_of earlier (Missed place miss header) = record { answers = None; sending = 1 }
+    record { answers = answered found.frame messages; sending = 1 + repeats found.frame messages; preambles = None }
+before_of earlier (Missed place miss header) = record { answers = None; sending = 1; preambles = None }
 
 -- Two lists of earlier sightings are alike if replacing one by the other never changes what they say of later sightings.
 abbrev pub AreAlike : List Seen → List Seen → Type 0

@@ -7,7 +7,7 @@ use Rattle.hart_explain.specs.declared.before.Before.{Before}
 use Rattle.hart_listen.specs.Before.{before_of}
 use Rattle.hart_listen.specs.Gaps.{seen_place}
 
--- A dated sighting: the date of its place, or no bytes if it has none, what the messages before it say of it, and the sighting.
+-- A dated sighting: the date of its place, or no bytes if it has none, what is known of it from what was heard before it, and the sighting.
 pub record Dated : Type 0 where
   pub date : List ℕ
   pub before : Before
@@ -33,7 +33,3 @@ line_of told = json_line told.date told.before told.seen
 -- The explanation of sightings is the text of each, in their order. `earlier` are the sightings before the first of them.
 abbrev pub explanation : (ℕ → List ℕ) → List Seen → List Seen → List ℕ
 explanation date earlier seen = flat_map words_of (dated_after date earlier seen)
-
--- The JSON lines of sightings.
-abbrev pub object_lines : (ℕ → List ℕ) → List Seen → List Seen → List ℕ
-object_lines date earlier seen = flat_map line_of (dated_after date earlier seen)

@@ -2,7 +2,9 @@ pub mod Before
 pub mod Gaps
 pub mod Sightings
 pub mod Dated
+pub mod Preambles
 pub mod Teller
 pub mod Dates
 pub mod LastMessages
+pub mod Past
 pub mod Listener

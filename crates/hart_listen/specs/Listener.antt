@@ -1,5 +1,5 @@
 -- What is told when characters and marks are heard (implementation choice).
-use Rattle.std.specs.Prelude.{◌≡◌, ◌≤◌, ◌<◌, ◌+◌, ◌-◌, ℕ, Bool, false, List, [], ◌∷◌, ◌++◌, None, IfSome, drop, length, map}
+use Rattle.std.specs.Prelude.{◌≡◌, ◌≤◌, ◌<◌, ◌+◌, ◌-◌, ℕ, Bool, false, List, [], ◌∷◌, ◌++◌, None, IfSome, drop, length, map, take}
 use Rattle.hart_frame.specs.declared.scan.sighting.After.{After}
 use Rattle.hart_frame.specs.declared.scan.sighting.After.TheVariants.{Damaged, End, More}
 use Rattle.hart_frame.specs.declared.scan.sighting.NextSighting.{NextSighting}
@@ -10,11 +10,14 @@ use Rattle.hart_text.specs.Heard.{Heard, ReadsHeard, after_chars, stretches}
 use Rattle.hart_listen.specs.Before.{AreAlike}
 use Rattle.hart_listen.specs.Dated.{Dated, dated_after}
 use Rattle.hart_listen.specs.Dates.{date_at, date_from}
-use Rattle.hart_listen.specs.LastMessages.{KeepsOwn, LastMessages, no_messages, recalled}
+use Rattle.hart_listen.specs.LastMessages.{KeepsOwn, LastMessages, recalled}
+use Rattle.hart_listen.specs.Past.{no_past}
+use Rattle.hart_listen.specs.Preambles.{counted, last_preambles, last_stop, preambles_of}
 use Rattle.hart_listen.specs.Sightings.{AreSightingsFrom, date_of}
 use Rattle.hart_listen.specs.Teller.{Moment, ToldBetween}
 use Rattle.hart_listen.specs.declared.dates.Dates.{Dates}
 use Rattle.hart_listen.specs.declared.listener.Listener.{Listener}
+use Rattle.hart_listen.specs.declared.past.Past.{Past}
 
 -- Nothing was heard yet.
 pub record IsNew (listener : Listener) : Type 0 where
@@ -22,7 +25,7 @@ pub record IsNew (listener : Listener) : Type 0 where
   pub held : listener.held ≡ []
   pub dated : listener.dates.held.items ≡ []
   pub undated : (place : ℕ) → date_from listener place ≡ []
-  pub no_last : listener.last ≡ no_messages
+  pub no_past : listener.past ≡ no_past
 
 -- Held characters are waiting if no sighting in them is decided until more is heard. At most 268 characters are held then, each with its
 -- date.
@@ -30,7 +33,8 @@ pub record IsWaiting (listener : Listener) : Type 0 where
   pub undecided : IsUndecidedSighting (faultless listener.held)
   pub few : length listener.held ≤ 268
   pub dated : length listener.dates.held.items ≡ length listener.held
-  pub own : KeepsOwn listener.first listener.last
+  pub own : KeepsOwn listener.first listener.past.last
+  pub preambles : listener.past.preambles ≤ listener.first
 
 -- The number of characters in stretches. Silences separate the stretches of what was heard.
 abbrev pub total : List (List Character) → ℕ
@@ -38,10 +42,11 @@ total [] = 0
 total (chars ∷ later) = length chars + total later
 
 -- What was heard falls into earlier stretches and the last one. The sightings of the earlier stretches, and those that the last one
--- decides, were told with their dates: `Told` is true of the list of them. The `held` characters are the last ones of the last stretch,
--- from the place `first` on in all that was heard. The first `used` of them are told too. If `ended` is true, nothing comes after the last
--- stretch's characters. The kept messages say the same of later sightings as all told sightings do.
-pub record Stands (Told : List Dated → Type 0) (last : LastMessages) (date : ℕ → List ℕ) (first : ℕ) (held : List Character) (used : ℕ)
+-- decides, were told with their dates and their preamble bytes: `Told` is true of the list of them. The `held` characters are the last ones
+-- of the last stretch, from the place `first` on in all that was heard. The first `used` of them are told too. If `ended` is true, nothing
+-- comes after the last stretch's characters. What is kept says the same of later sightings as all told sightings and all dropped characters
+-- do.
+pub record Stands (Told : List Dated → Type 0) (past : Past) (date : ℕ → List ℕ) (first : ℕ) (held : List Character) (used : ℕ)
     (ended : Bool) (heard : List Heard) : Type 0 where
   pub earlier : List (List Character)
   pub chars : List Character
@@ -56,13 +61,16 @@ pub record Stands (Told : List Dated → Type 0) (last : LastMessages) (date : �
   pub sees : SeesOn chars ended 0 seen (base + used)
   pub within : used ≤ length held
   pub dates : (place : ℕ) → first ≤ place → date place ≡ date_of heard place
-  pub alike : AreAlike (recalled last) (before ++ map (moved_seen (total earlier)) seen)
-  pub told : Told (dated_after (date_of heard) [] (before ++ map (moved_seen (total earlier)) seen))
+  pub alike : AreAlike (recalled past.last) (before ++ map (moved_seen (total earlier)) seen)
+  pub stop : past.stop ≡ last_stop 0 (dated_after (date_of heard) [] (before ++ map (moved_seen (total earlier)) seen))
+  pub preambles : past.preambles ≡ last_preambles (take base chars)
+  pub told : Told
+      (counted (preambles_of heard) 0 (dated_after (date_of heard) [] (before ++ map (moved_seen (total earlier)) seen)))
 
 -- All that was heard is told as far as it is decided, and the rest is held.
 abbrev pub StandsFor : (List Dated → Type 0) → Bool → Listener → List Heard → Type 0
 StandsFor Told ended listener heard =
-    Stands Told listener.last (date_from listener) listener.first (faultless listener.held) 0 ended heard
+    Stands Told listener.past (date_from listener) listener.first (faultless listener.held) 0 ended heard
 
 -- Whatever was heard before, `more` was heard after it, and all that was decided then was told. If `ended` is true, nothing comes after it
 -- in its stretch.
@@ -113,9 +121,9 @@ pub record DecidesNoMore (held : List ℕ) (after : After) (used : ℕ) : Type 0
   pub undecided : after ≡ More → IsUndecidedSighting (faultless (drop used held))
 
 -- Whatever was heard before, the decided sightings up to the place `used`, in held bytes and in what comes after them, were told.
-abbrev pub Explains : {T W : Type 0} → ToldBetween T W → ℕ → List ℕ → After → ℕ → Dates → (last last_after : LastMessages)
+abbrev pub Explains : {T W : Type 0} → ToldBetween T W → ℕ → List ℕ → After → ℕ → Dates → (past past_after : Past)
     → (before after : Moment T W) → Type 0
-Explains {T} {W} Told first held after used dates last last_after now now_after = (start since : Moment T W) (heard : List Heard)
-    → Stands (Told start since now) last (λ place. date_at dates (place - first)) first (heard_with held after) 0 (is_end after) heard
-    → Stands (Told start since now_after) last_after (λ place. date_at dates (place - first)) first (heard_with held after) used
+Explains {T} {W} Told first held after used dates past past_after now now_after = (start since : Moment T W) (heard : List Heard)
+    → Stands (Told start since now) past (λ place. date_at dates (place - first)) first (heard_with held after) 0 (is_end after) heard
+    → Stands (Told start since now_after) past_after (λ place. date_at dates (place - first)) first (heard_with held after) used
     (is_end after) heard

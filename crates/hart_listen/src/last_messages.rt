@@ -29,8 +29,7 @@ pub struct LastRequest {
     pub is_left_open: bool,
 }
 
-/// The kept request of a master, if there is one: all later messages of that master are replies that leave it open. The next request is
-/// written over it, so that no frame is moved in memory.
+/// The last request of a master, until a reply completes it. The next request is written over it, so that no frame is moved in memory.
 #[derive(Drop)]
 pub struct KeptRequest {
     /// The last request, whether it is kept or not.
@@ -58,6 +57,7 @@ const BUSY: u8 = 32;
 const NOTHING_BEFORE: Before = Before {
     answers: None,
     sending: 1,
+    preambles: None,
 };
 
 /// Returns the state in which no message was heard.
@@ -123,6 +123,7 @@ fn hear_frame(last: &mut KeptRequest, start: u64, frame: &FrameView<'_>) -> Befo
     requires { IfSome last.old (λ request. request.sent_before < 2 ^ 64 - 2) }
     ensures answers { result.answers ≡ answered (parts_of frame.now) (listed last.old) }
     ensures sending { result.sending ≡ 1 + repeats (parts_of frame.now) (listed last.old) }
+    ensures preambles { result.preambles ≡ None }
     ensures agree { (stop : ℕ)
         → Agree (listed last.new) (record { start = start; stop = stop; frame = parts_of frame.now } ∷ listed last.old) }
     ensures own { (master : MasterId) (most : ℕ) → (parts_of frame.now).master ≡ master → IfSome last.old (IsOwn master most)
@@ -132,10 +133,12 @@ fn hear_frame(last: &mut KeptRequest, start: u64, frame: &FrameView<'_>) -> Befo
         FrameKind::Stx => Before {
             answers: None,
             sending: hear_request(last, start, frame),
+            preambles: None,
         },
         FrameKind::Ack => Before {
             answers: hear_reply(last, frame),
             sending: 1,
+            preambles: None,
         },
     }
 }

@@ -15,13 +15,14 @@ ghost use Rattle.hart_listen.specs.Gaps.{seen_place};
 ghost use Rattle.hart_listen.specs.LastMessages.{KeepsOwn, recalled};
 ghost use Rattle.hart_listen.specs.Listener.{DecidesNoMore, Explains, Hears, HearsText, IsNew, IsNextSighting, IsWaiting, chars_after};
 ghost use Rattle.hart_listen.specs.Listener.{dated_from};
+ghost use Rattle.hart_listen.specs.Preambles.{counted, preambles_at, preambles_dropped, stop_after};
 ghost use Rattle.hart_listen.specs.Teller.{Tells, moment};
 
 use crate::dates::Dates;
 use crate::held;
 use crate::held::Held;
 use crate::item_reader::ItemReader;
-use crate::last_messages::{LastMessages, hear_sighting, no_messages};
+use crate::past::Past;
 use crate::teller::Teller;
 use hart_frame::{After, Char, NextSighting, Sighting, next_sighting};
 use hart_text::{Mark, leading_mark, next_piece, read_chunk};
@@ -36,8 +37,8 @@ pub struct Listener {
     pub first: u64,
     /// The dates of the held characters, and of the characters that come next.
     pub dates: Dates,
-    /// The last request of each master, until a reply completes it.
-    pub last: LastMessages,
+    /// What is kept of what was told and dropped.
+    pub past: Past,
 }
 
 impl Listener {
@@ -49,7 +50,7 @@ impl Listener {
             held: Held::new(),
             first: 0,
             dates: Dates::new(),
-            last: no_messages(),
+            past: Past::new(),
         }
     }
 
@@ -148,6 +149,7 @@ impl Listener {
     {
         let silence = After::End;
         self.tell_held(teller, writer, silence);
+        self.past.hear_silence();
     }
 
     /// Hears bytes without faults, and tells what they decide.
@@ -187,7 +189,8 @@ impl Listener {
         requires valid { AfterIsValid after }
         requires places { self.old.first + length self.old.held < 2 ^ 64 - 1 }
         requires dated { length self.old.dates.held.items ≤ length self.old.held }
-        requires own { KeepsOwn self.old.first self.old.last }
+        requires own { KeepsOwn self.old.first self.old.past.last }
+        requires preambles { self.old.past.preambles ≤ self.old.first }
         ensures hears { Hears T.told
             self.old self.new
             (heard_chars (chars_after after)) (is_end after)
@@ -200,7 +203,7 @@ impl Listener {
         let used = tell_decided(
             teller,
             writer,
-            &mut self.last,
+            &mut self.past,
             &self.dates,
             self.first,
             held,
@@ -215,13 +218,16 @@ impl Listener {
         requires places { self.old.first + used < 2 ^ 64 }
         requires few { length (drop used self.old.held) ≤ 268 }
         requires dated { length self.old.dates.held.items ≤ length self.old.held }
+        requires preambles { self.old.past.preambles + length self.old.held < 2 ^ 64 }
         ensures held { self.new.held ≡ drop used self.old.held }
         ensures first { self.new.first ≡ self.old.first + used }
-        ensures last { self.new.last ≡ self.old.last }
+        ensures past { self.new.past ≡ record self.old.past
+            { preambles = preambles_dropped self.old.past.preambles self.old.held used } }
         ensures dated { length self.new.dates.held.items ≡ length self.new.held }
         ensures dates { (place : ℕ) → date_at self.new.dates place ≡ date_at self.old.dates (used + place) }
     {
         let count = self.held.len().saturating_sub(used);
+        self.past.let_go(self.held.as_slice(), used);
         held::let_go(&mut self.held, used);
         self.first += used as u64;
         self.dates.let_go(used, count);
@@ -243,20 +249,22 @@ impl Listener {
 fn tell_decided<W, T: Teller<W>>(
     teller: &mut T,
     writer: &mut W,
-    last: &mut LastMessages,
+    past: &mut Past,
     dates: &Dates,
     first: u64,
     held: &[u8],
     after: &After,
 ) -> usize
     requires valid { AfterIsValid after.now }
-    requires own { KeepsOwn first last.old }
+    requires own { KeepsOwn first past.old.last }
+    requires preambles { past.old.preambles ≤ first }
     requires places { first + length held.now < 2 ^ 64 - 1 }
     ensures explains { Explains T.told
         first held.now after.now result dates.now
-        last.old last.new
+        past.old past.new
         (moment teller.old writer.old) (moment teller.new writer.new) }
-    ensures own { KeepsOwn (first + result) last.new }
+    ensures own { KeepsOwn (first + result) past.new.last }
+    ensures preambles { past.new.preambles ≡ past.old.preambles }
     ensures decided { DecidesNoMore held.now after.now result }
 {
     let mut used = 0;
@@ -266,29 +274,35 @@ fn tell_decided<W, T: Teller<W>>(
         let Some(sighting) = next.sighting else {
             return used;
         };
-        tell_sighting(teller, writer, last, dates, first, &sighting);
+        tell_sighting(teller, writer, past, dates, first, held, &sighting);
     }
 }
 
-/// Tells a sighting with the date of its place, and with what the messages before it say of it. Its places are counted from `first` on.
+/// Tells a sighting with the date of its place, and with what was heard before it. The first held byte has the place `first`.
 fn tell_sighting<W, T: Teller<W>>(
     teller: &mut T,
     writer: &mut W,
-    last: &mut LastMessages,
+    past: &mut Past,
     dates: &Dates,
     first: u64,
+    held: &[u8],
     sighting: &Sighting<'_>,
 )
     requires places { FitsFrom first sighting.now }
-    requires own { KeepsOwn (2 ^ 64 - 2) last.old }
+    requires within { seen_place (seen_of sighting.now) ≤ length held.now }
+    requires few { past.old.preambles + length held.now < 2 ^ 64 }
+    requires own { KeepsOwn (2 ^ 64 - 2) past.old.last }
     ensures tells { Tells T.told
         (moment teller.old writer.old) (moment teller.new writer.new)
-        (dated_from last.old (λ place. date_at dates.now (place - first)) first (seen_of sighting.now ∷ [])) }
-    ensures alike { AreAlike (recalled last.new) (recalled last.old ++ map (moved_seen first) (seen_of sighting.now ∷ [])) }
-    ensures own { (most : ℕ) → KeepsOwn most last.old → KeepsOwn (most + 1) last.new }
+        (counted (preambles_at past.old.preambles first (faultless held.now)) past.old.stop
+        (dated_from past.old.last (λ place. date_at dates.now (place - first)) first (seen_of sighting.now ∷ []))) }
+    ensures alike { AreAlike (recalled past.new.last) (recalled past.old.last ++ map (moved_seen first) (seen_of sighting.now ∷ [])) }
+    ensures own { (most : ℕ) → KeepsOwn most past.old.last → KeepsOwn (most + 1) past.new.last }
+    ensures stop { past.new.stop ≡ stop_after past.old.stop (moved_seen first (seen_of sighting.now)) }
+    ensures preambles { past.new.preambles ≡ past.old.preambles }
 {
     let date = dates.word_at(place_of(sighting));
-    let before = hear_sighting(last, first, sighting);
+    let before = past.hear(first, held, sighting);
     teller.tell(writer, date, first, before, sighting);
 }
 

@@ -15,8 +15,8 @@ pub trait Teller<W> {
     // These dated sightings were told from the first moment to the last one. The second moment lies between them.
     ghost told: { Moment Self W → Moment Self W → Moment Self W → List Dated → Type 0 };
 
-    /// Tells a sighting. Its places are counted from `first` on. `date` is the date of its place, or empty. `before` is what the messages
-    /// before it say of it.
+    /// Tells a sighting. Its places are counted from `first` on. `date` is the date of its place, or empty. `before` is what is known of it
+    /// from what was heard before it.
     fn tell(
         &mut self,
         writer: &mut W,

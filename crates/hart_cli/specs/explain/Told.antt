@@ -3,7 +3,8 @@ use Rattle.std.specs.Prelude.{◌≡◌, ℕ, List, [], Option}
 use Rattle.hart_frame.specs.heard.Sighting.{Seen}
 use Rattle.hart_text.specs.Heard.{Heard}
 use Rattle.hart_cli.specs.declared.fault.CliFault.{CliFault}
-use Rattle.hart_listen.specs.Dated.{explanation, object_lines}
+use Rattle.hart_listen.specs.Dated.{explanation}
+use Rattle.hart_listen.specs.Preambles.{object_lines, preambles_of}
 use Rattle.hart_listen.specs.Sightings.{AreSightingsOf, date_of}
 use Rattle.hart_cli.specs.input.Decoding.{Decoding}
 use Rattle.hart_cli.specs.input.Input.{Ending}
@@ -17,4 +18,4 @@ pub record AreOfOneTelling (decoding : Decoding (List Heard)) (input : List ℕ)
   pub seen : List Seen
   pub are_sightings : AreSightingsOf heard seen
   pub text_is : text ≡ explanation (date_of heard) [] seen
-  pub lines_are : lines ≡ object_lines (date_of heard) [] seen
+  pub lines_are : lines ≡ object_lines (date_of heard) (preambles_of heard) seen

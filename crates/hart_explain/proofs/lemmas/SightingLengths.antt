@@ -32,6 +32,7 @@ use Rattle.hart_explain.specs.Json.{Named, count, further_member, further_member
 use Rattle.hart_explain.specs.Json.{reading_members, word}
 use Rattle.hart_explain.specs.Reading.{Reading}
 use Rattle.hart_explain.specs.Message.{before_member, burst_line, frame_members, message_line, message_members, paragraph}
+use Rattle.hart_explain.specs.Message.{preambles_members}
 use Rattle.hart_explain.specs.Message.{payload_lines, payload_members, sending_words}
 use Rattle.hart_explain.specs.Miss.{miss_members, reason_members, seems_line, seems_value}
 use Rattle.hart_explain.specs.Sighting.{data_of, date_words, time_members}
@@ -328,15 +329,17 @@ typed-fits kind date others most short dated few =
     omega (arith, object-fits (named "type" (word kind) ∷ time_members date ++ others), all.fit)
 
 pub message-fits : (date : List ℕ) (before : Before) (found : Found) → length date ≤ 32 → length (decimal found.start) ≤ 20
-    → length (decimal found.stop) ≤ 20 → length (further_members (frame_members found.frame)) ≤ 15600
+    → length (decimal found.stop) ≤ 20 → length (further_members (preambles_members before.preambles)) ≤ 33
+    → length (further_members (frame_members found.frame)) ≤ 15600
     → length (further_member (before_member found.frame.kind before)) ≤ 66
     → length (compact_text (data_of date before (Message found))) ≤ 16300
-message-fits date before found short start stop frame sending =
+message-fits date before found short start stop counted frame sending =
+    let counted : Fit (preambles_members before.preambles) 33 = record { fit = counted } in
     let frame : Fit (frame_members found.frame) 15600 = record { fit = frame } in
     let last : Fit (before_member found.frame.kind before ∷ []) 66 = record { fit = simp append-nil sending } in
     let places =
     member-then (codes "start") (number-fits found.start 20 start)
-    (member-then (codes "stop") (number-fits found.stop 20 stop) (members-then frame last)) in
+    (member-then (codes "stop") (number-fits found.stop 20 stop) (members-then counted (members-then frame last))) in
     let all = typed-fits "message" date (message_members before found) _ (omega arith) short places in omega (arith, all)
 
 pub miss-fits : (date : List ℕ) (place : ℕ) (miss : Miss) (header : Option HeaderParts) → length date ≤ 32

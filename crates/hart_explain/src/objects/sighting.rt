@@ -14,7 +14,7 @@ ghost use Rattle.hart_frame.specs.wire.Header.{header_parts};
 ghost use Rattle.hart_frame.specs.wire.View.{parts_of};
 ghost use Rattle.hart_explain.specs.Json.{further_member, further_members, named, object_of, reading_members, word};
 ghost use Rattle.hart_explain.specs.Header.{header_value};
-ghost use Rattle.hart_explain.specs.Message.{before_member, frame_members, payload_members};
+ghost use Rattle.hart_explain.specs.Message.{before_member, frame_members, payload_members, preambles_members};
 ghost use Rattle.hart_explain.specs.Miss.{miss_members, reason_members, seems_value};
 ghost use Rattle.hart_explain.specs.Reading.{reading_of_reply};
 ghost use Rattle.hart_explain.specs.Sighting.{FitsFrom, data_of, json_line, time_members};
@@ -92,6 +92,7 @@ fn push_message(
     push_number(text, first + found.start);
     push_text(text, ",\"stop\":");
     push_number(text, first + found.stop);
+    push_preambles(text, before.preambles);
     push_frame(text, pairs, &found.frame);
     push_before(text, found.frame.kind(), before);
     push_text(text, "}");
@@ -106,6 +107,17 @@ fn push_time(text: &mut Text, date: &[u8])
     }
     push_text(text, ",\"time\":");
     push_quoted(text, date);
+}
+
+/// Adds the member of the number of preamble bytes of a message, if it is known.
+fn push_preambles(text: &mut Text, preambles: Option<u64>)
+    ensures members { text.new ≡ extended text.old (further_members (preambles_members preambles)) }
+    ensures few { length (further_members (preambles_members preambles)) ≤ 33 }
+{
+    if let Some(preambles) = preambles {
+        push_text(text, ",\"preambles\":");
+        push_number(text, preambles);
+    }
 }
 
 /// Adds the members of a frame.

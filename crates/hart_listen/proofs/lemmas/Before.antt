@@ -210,11 +210,12 @@ own_more most limit last few own =
 -- what the kept requests say of a message
 pub before_is : (last : LastMessages) (most : ℕ) (f : Found) (before : Before) (of : MasterId) → KeepsOwn most last
     → f.frame.master ≡ of → before.answers ≡ answered f.frame (listed (of_master of last))
-    → before.sending ≡ 1 + repeats f.frame (listed (of_master of last)) → before ≡ before_of (recalled last) (Message f)
-before_is last most f before of own is answers sending =
+    → before.sending ≡ 1 + repeats f.frame (listed (of_master of last)) → before.preambles ≡ None
+    → before ≡ before_of (recalled last) (Message f)
+before_is last most f before of own is answers sending none =
     let back : messages_back f.frame.master (recalled last) ≡ listed (of_master of last) =
     ap (λ master. messages_back master (recalled last)) is ∙ back_recalled of most last own in
-    rw (back, ← answers, ← sending) refl
+    rw (back, ← answers, ← sending, ← none) refl
 
 -- a request answers nothing, and no sending of a reply is counted
 pub request_unanswered : (frame : FrameParts) (messages : List Found) → is_request frame.kind ≡ true → answered frame messages ≡ None

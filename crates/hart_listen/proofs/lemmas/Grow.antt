@@ -2,13 +2,13 @@
 use Rattle.std.proofs.Common.{◌≡◌, ◌++◌, ◌∷◌, ◌∙◌, [], List, ap, append_assoc, inl, inr, sym}
 use Rattle.hart_frame.specs.heard.Sighting.{Seen}
 use Rattle.hart_text.specs.Heard.{Heard, stretches}
-use Rattle.hart_text.proofs.lemmas.Heard.{count}
 use Rattle.hart_listen.specs.Dated.{Dated, dated_after}
+use Rattle.hart_listen.specs.Preambles.{counted, last_stop, preambles_of}
 use Rattle.hart_listen.specs.Sightings.{AreDecided, AreSightingsOf, ComeFirst, date_of}
 use Rattle.hart_listen.proofs.lemmas.Dated.{dated_then}
-use Rattle.hart_listen.proofs.lemmas.Dates.{date_before, same_within}
 use Rattle.hart_listen.proofs.lemmas.Decided.{compare}
 use Rattle.hart_listen.proofs.lemmas.InStretches.{some_seen}
+use Rattle.hart_listen.proofs.lemmas.Preambles.{counted_then, counts_stay}
 use Rattle.hart_listen.proofs.lemmas.Stands.{first_within}
 
 -- if sightings come first, so does each beginning of them
@@ -32,12 +32,19 @@ one_decided heard xs ys a b =
       | inr (inr (next, rest, longer)) ↦ absurd (b.no_more next (part heard ys xs rest next a.first longer))
     ]
 
--- whatever is heard next, the sightings decided so far are the first ones of all, with the same dates
+-- whatever is heard next, the sightings decided so far are the first ones of all, with the same dates and preamble bytes
 pub dated_grows : (heard more : List Heard) (seen all : List Seen) → AreDecided heard seen → AreSightingsOf (heard ++ more) all
-    → (rest : List Dated) × (dated_after (date_of (heard ++ more)) [] all ≡ dated_after (date_of heard) [] seen ++ rest)
+    → (rest : List Dated) × (counted (preambles_of (heard ++ more)) 0 (dated_after (date_of (heard ++ more)) [] all)
+    ≡ counted (preambles_of heard) 0 (dated_after (date_of heard) [] seen) ++ rest)
 dated_grows heard more seen all decided are =
     let (later, same) = decided.first more all are in
     let date = date_of (heard ++ more) in
-    let dated = same_within date (date_of heard) (count heard) (date_before [] heard more) seen (first_within heard seen decided.first) in
-    let rest = dated_after date seen later in
-    (rest, ap (dated_after date []) same ∙ (dated_then date [] seen later ∙ ap (λ xs. xs ++ rest) dated))
+    let preambles = preambles_of (heard ++ more) in
+    let first = dated_after date [] seen in
+    let rest = counted preambles (last_stop 0 first) (dated_after date seen later) in
+    let begun = counts_stay heard more seen (first_within heard seen decided.first) in (
+      rest,
+      ap (λ xs. counted preambles 0 (dated_after date [] xs)) same
+          ∙ (ap (counted preambles 0) (dated_then date [] seen later)
+          ∙ (counted_then preambles 0 first (dated_after date seen later) ∙ ap (λ xs. xs ++ rest) (sym begun))),
+    )

@@ -1,13 +1,14 @@
 -- Characters that are heard and told part by part.
-use Rattle.std.proofs.Common.{◌≡◌, ◌≤◌, ◌<◌, ◌+◌, ◌-◌, ℕ, false, true, List, [], ◌∷◌, ◌++◌, length, map, drop, zero, suc}
-use Rattle.std.proofs.Common.{refl, sym, ap, ◌∙◌, arith, get_or}
+use Rattle.std.proofs.Common.{◌≡◌, ◌≤◌, ◌<◌, ◌+◌, ◌-◌, ℕ, false, true, List, [], ◌∷◌, ◌++◌, length, map, drop, take, zero, suc}
+use Rattle.std.proofs.Common.{All, refl, sym, ap, ◌∙◌, arith, get_or}
 use Rattle.std.proofs.Common.{append_assoc, append-nil, length-append, length-drop}
-use Rattle.std.proofs.lemmas.List.{drop-append-le, drop-drop, drop_all, get_or_default, get_or_past, length-map, map-append}
+use Rattle.std.proofs.lemmas.List.{drop-append-le, drop-drop, drop_all, get_or_default, get_or_past, map-append}
+use Rattle.std.proofs.lemmas.List.Elements.{All-nil}
 use Rattle.hart_frame.specs.declared.scan.sighting.After.{After}
 use Rattle.hart_frame.specs.declared.scan.sighting.After.TheVariants.{Damaged, End, More}
 use Rattle.hart_frame.specs.heard.Character.{Character, faultless}
 use Rattle.hart_frame.specs.heard.Sighting.{IsUndecidedSighting, Seen, SeesOn, moved_seen}
-use Rattle.hart_frame.specs.scan.Sighting.{heard_with, is_end}
+use Rattle.hart_frame.specs.scan.Sighting.{AfterIsValid, heard_with, is_end}
 use Rattle.hart_frame.proofs.lemmas.scan.SightingLaws.{rest as rest_is_seen}
 use Rattle.hart_text.specs.Heard as reading
 use Rattle.hart_text.specs.Heard.{BeginsWithMark, Date, Heard, ReadsHeard, Silence, after_chars, heard_chars, stretches}
@@ -17,14 +18,18 @@ use Rattle.hart_text.proofs.lemmas.Heard.{heard_laws}
 use Rattle.hart_listen.specs.Before.{AreAlike}
 use Rattle.hart_listen.specs.Dated.{Dated}
 use Rattle.hart_listen.specs.Dates.{date_at, date_from, kept_word}
-use Rattle.hart_listen.specs.LastMessages.{KeepsOwn, LastMessages, recalled}
+use Rattle.hart_listen.specs.LastMessages.{KeepsOwn, recalled}
+use Rattle.hart_listen.specs.Gaps.{seen_place}
+use Rattle.hart_listen.specs.Preambles.{after_preambles, counted, last_preambles, last_stop, preambles_at, preambles_dropped}
 use Rattle.hart_listen.specs.Listener.{DecidesNoMore, Explains, Hears, HearsText, IsNew, IsWaiting, StandsFor, chars_after, dated_from}
 use Rattle.hart_listen.specs.Listener.{total}
 use Rattle.hart_listen.specs.Sightings.{AreDecided, ComeFirst}
 use Rattle.hart_listen.specs.Teller.{Moment, Tells, ToldBetween}
 use Rattle.hart_listen.specs.declared.dates.Dates.{Dates}
 use Rattle.hart_listen.specs.declared.listener.Listener.{Listener}
+use Rattle.hart_listen.specs.declared.past.Past.{Past}
 use Rattle.hart_listen.proofs.lemmas.Dated.{alike_same}
+use Rattle.hart_listen.proofs.lemmas.Held.{counted_held, dropped_few, dropped_is, heard_is, long_is}
 use Rattle.hart_listen.proofs.lemmas.Decided.{back, cancel, first_moved}
 use Rattle.hart_listen.proofs.lemmas.InStretches.{stretches_chars}
 use Rattle.hart_listen.proofs.lemmas.Sightings.{moved_twice, undecided_nothing}
@@ -34,16 +39,6 @@ use Rattle.hart_listen.proofs.lemmas.Stands.{told_first}
 -- the characters of two lists of bytes, joined, are those of both lists
 pub faultless_on : (xs ys : List ℕ) → faultless (xs ++ ys) ≡ faultless xs ++ faultless ys
 faultless_on xs ys = map-append _ xs ys
-
--- a list of faultless characters is as long as the list of their bytes
-pub long_is : (bytes : List ℕ) → length (faultless bytes) ≡ length bytes
-long_is bytes = length-map bytes _
-
--- what is heard is the characters of the held bytes, and what comes after them
-heard_is : (held : List ℕ) (after : After) → heard_with held after ≡ faultless held ++ chars_after after
-heard_is held More = sym (append-nil (faultless held))
-heard_is held (Damaged character) = refl
-heard_is held End = sym (append-nil (faultless held))
 
 -- the characters of the rest of some bytes are the rest of their characters
 rest_is : (held : List ℕ) (used : ℕ) → faultless (drop used held) ≡ drop used (faultless held)
@@ -105,53 +100,74 @@ hears_on Told a b c xs ys w w1 w2 h k start since heard s =
 
 -- nothing more is told where no sighting is decided
 pub explains_nothing : {T W : Type 0} (Told : ToldBetween T W) (first : ℕ) (held : List ℕ) (after : After) (dates : Dates)
-    (x : LastMessages) (w : Moment T W) → Explains Told first held after 0 dates x x w w
+    (x : Past) (w : Moment T W) → Explains Told first held after 0 dates x x w w
 explains_nothing Told first held after dates x w start since heard s = s
 
 -- one more sighting was told
 pub explains_next : {T W : Type 0} (Told : ToldBetween T W) (first : ℕ) (held : List ℕ) (after : After) (used to : ℕ) (dates : Dates)
-    (x y z : LastMessages) (w w1 w2 : Moment T W) (given : List Seen) → Explains Told first held after used dates x y w w1
+    (x y z : Past) (w w1 w2 : Moment T W) (given : List Seen) → Explains Told first held after used dates x y w w1
     → SeesOn (heard_with held after) (is_end after) used given to → to ≤ length (heard_with held after)
-    → Tells Told w1 w2 (dated_from y (λ place. date_at dates (place - first)) first given)
-    → AreAlike (recalled z) (recalled y ++ map (moved_seen first) given) → Explains Told first held after to dates x z w w2
-explains_next Told first held after used to dates x y z w w1 w2 given h sees within tells alike start since heard s =
-    stands_on (Told start since w1) (Told start since w2) y z (λ place. date_at dates (place - first)) first (heard_with held after)
-    used to (is_end after) heard given (h start since heard s) sees within (tells start since) alike
+    → All (λ s. seen_place s < length (heard_with held after)) given → All (λ s. seen_place s ≤ length held) given
+    → Tells Told w1 w2 (counted (preambles_at y.preambles first (faultless held)) y.stop
+    (dated_from y.last (λ place. date_at dates (place - first)) first given))
+    → AreAlike (recalled z.last) (recalled y.last ++ map (moved_seen first) given)
+    → z.stop ≡ last_stop y.stop (dated_from y.last (λ place. date_at dates (place - first)) first given)
+    → z.preambles ≡ y.preambles → Explains Told first held after to dates x z w w2
+explains_next Told first held after used to dates x y z w w1 w2 given h sees within below few tells alike stop preambles
+    start since heard s =
+    let date : ℕ → List ℕ = λ place. date_at dates (place - first) in
+    let same = counted_held y.preambles y.stop first held after date (recalled y.last) given few in
+    stands_on (Told start since w1) (Told start since w2) y z date first (heard_with held after) used to (is_end after) heard given
+    (h start since heard s) sees within below (rw same at (tells start since)) alike stop preambles
 
 -- the search went on without a sighting
 pub explains_still : {T W : Type 0} (Told : ToldBetween T W) (first : ℕ) (held : List ℕ) (after : After) (used to : ℕ) (dates : Dates)
-    (x y : LastMessages) (w w1 : Moment T W) → Explains Told first held after used dates x y w w1
+    (x y : Past) (w w1 : Moment T W) → Explains Told first held after used dates x y w w1
     → SeesOn (heard_with held after) (is_end after) used [] to → to ≤ length (heard_with held after)
     → Explains Told first held after to dates x y w w1
 explains_still Told first held after used to dates x y w w1 h sees within =
-    explains_next Told first held after used to dates x y y w w1 w1 [] h sees within (λ start since list so. rw append-nil so)
-    (alike_same (recalled y) (recalled y ++ []) (sym (append-nil (recalled y))))
+    explains_next Told first held after used to dates x y y w w1 w1 [] h sees within
+    (All-nil (λ (s : Seen). seen_place s < length (heard_with held after))) (All-nil (λ (s : Seen). seen_place s ≤ length held))
+    (λ start since list so. rw append-nil so)
+    (alike_same (recalled y.last) (recalled y.last ++ []) (sym (append-nil (recalled y.last)))) refl refl
 
 -- the decided sightings of what was held were told, and the rest is held
-pub hears_held : {T W : Type 0} (Told : ToldBetween T W) (old new : Listener) (after : After) (used : ℕ) (w w1 : Moment T W)
-    → Explains Told old.first old.held after used old.dates old.last new.last w w1
+pub hears_held : {T W : Type 0} (Told : ToldBetween T W) (old new : Listener) (after : After) (used : ℕ) (mid : Past) (w w1 : Moment T W)
+    → AfterIsValid after → Explains Told old.first old.held after used old.dates old.past mid w w1
     → DecidesNoMore old.held after used → new.first ≡ old.first + used → new.held ≡ drop used old.held
+    → new.past ≡ record mid { preambles = preambles_dropped mid.preambles old.held used }
     → ((place : ℕ) → date_at new.dates place ≡ date_at old.dates (used + place))
     → Hears Told old new (heard_chars (chars_after after)) (is_end after) w w1
-hears_held Told old new after used w w1 explains decided first held dates start since heard s =
-    let more = stands_more (Told start since w) old.last (date_from old) old.first (faultless old.held) 0 (is_end after) heard
+hears_held Told old new after used mid w w1 valid explains decided first held past dates start since heard s =
+    let more = stands_more (Told start since w) old.past (date_from old) old.first (faultless old.held) 0 (is_end after) heard
     (chars_after after) s in
     let told = explains start since (heard ++ heard_chars (chars_after after)) (rw (heard_is old.held after) more) in
-    rw held (rw (stays_held old.held after used decided.all)
-    (rw (heard_is old.held after) at (stands_let_go (Told start since w1) new.last (date_from old) (date_from new) old.first new.first
+    let dropped = dropped_is mid.preambles old.held after used valid decided.within
+    ∙ ap (λ xs. last_preambles (after_preambles mid.preambles (take used xs))) (heard_is old.held after) in
+    rw (held, past, dropped)
+    (rw (stays_held old.held after used decided.all)
+    (rw (heard_is old.held after) at (stands_let_go (Told start since w1) mid (date_from old) (date_from new) old.first new.first
     (heard_with old.held after) used (is_end after) (heard ++ heard_chars (chars_after after)) told first
     (stays_dated old new used first dates))))
 
 -- what stays held waits for more
 pub waits : (old new : Listener) (after : After) (used : ℕ) → DecidesNoMore old.held after used → new.first ≡ old.first + used
-    → new.held ≡ drop used old.held → length new.dates.held.items ≡ length new.held → KeepsOwn (old.first + used) new.last
-    → IsWaiting new
-waits old new after used decided first held dated own = record {
+    → new.held ≡ drop used old.held → length new.dates.held.items ≡ length new.held → KeepsOwn (old.first + used) new.past.last
+    → new.past.preambles ≤ new.first → IsWaiting new
+waits old new after used decided first held dated own preambles = record {
   undecided = rw held (waits_held old.held after used decided.all decided.undecided);
   few = rw held (few_stay old.held after used decided.few);
   dated = dated;
   own = rw first own;
+  preambles = preambles;
 }
+
+-- at most all characters before those that stay are preamble bytes right before them
+pub few_before : (mid : Past) (old new : Listener) (used : ℕ) → mid.preambles ≤ old.first → new.first ≡ old.first + used
+    → new.past ≡ record mid { preambles = preambles_dropped mid.preambles old.held used } → new.past.preambles ≤ new.first
+few_before mid old new used few first past =
+    let is : new.past.preambles ≡ preambles_dropped mid.preambles old.held used = ap (λ (past : Past). past.preambles) past in
+    omega (arith, is, dropped_few mid.preambles old.held used, few, first)
 
 -- what was let go and what stays held are all that was heard
 pub long_stays : (old new : Listener) (after : After) (used : ℕ) → DecidesNoMore old.held after used → new.first ≡ old.first + used
@@ -172,19 +188,20 @@ long_stays old new after used decided first held =
 
 -- bytes without faults were held, and then told as far as they decide
 pub hears_bytes : {T W : Type 0} (Told : ToldBetween T W) (old mid new : Listener) (bytes : List ℕ) (w w1 : Moment T W)
-    → mid.last ≡ old.last → mid.dates ≡ old.dates → mid.first ≡ old.first → mid.held ≡ old.held ++ bytes
+    → mid.past ≡ old.past → mid.dates ≡ old.dates → mid.first ≡ old.first → mid.held ≡ old.held ++ bytes
     → Hears Told mid new [] false w w1 → Hears Told old new (heard_chars (faultless bytes)) false w w1
-hears_bytes Told old mid new bytes w w1 last dates first held h start since heard s =
-    let more = stands_more (Told start since w) old.last (date_from old) old.first (faultless old.held) 0 false heard (faultless bytes) s in
+hears_bytes Told old mid new bytes w w1 past dates first held h start since heard s =
+    let more = stands_more (Told start since w) old.past (date_from old) old.first (faultless old.held) 0 false heard (faultless bytes) s in
     rw append-nil at (h start since (heard ++ heard_chars (faultless bytes))
-    (rw (last, dates, first, held, faultless_on old.held bytes) more))
+    (rw (past, dates, first, held, faultless_on old.held bytes) more))
 
 -- a silence was heard
-pub hears_silence : {T W : Type 0} (Told : ToldBetween T W) (old new : Listener) (w w1 : Moment T W) → Hears Told old new [] true w w1
-    → new.held ≡ [] → Hears Told old new (Silence ∷ []) false w w1
-hears_silence Told old new w w1 h none start since heard s =
+pub hears_silence : {T W : Type 0} (Told : ToldBetween T W) (old mid new : Listener) (w w1 : Moment T W)
+    → Hears Told old mid [] true w w1 → mid.held ≡ [] → new.past ≡ record mid.past { preambles = 0 } → new.dates ≡ mid.dates
+    → new.first ≡ mid.first → new.held ≡ mid.held → Hears Told old new (Silence ∷ []) false w w1
+hears_silence Told old mid new w w1 h none past dates first held start since heard s =
     let ended = rw (none, append-nil) at (h start since heard s) in
-    rw none (stands_silence (Told start since w1) new.last (date_from new) new.first heard ended)
+    rw (past, dates, first, held, none) (stands_silence (Told start since w1) mid.past (date_from mid) mid.first heard ended)
 
 -- a new date is the date of no held character, and of all that comes next
 date_here : (old new : Dates) (first long place : ℕ) → new.held ≡ old.held → length old.held.items ≡ long → first ≤ place
@@ -203,11 +220,11 @@ date_next old new first long place same dated from =
 
 -- a date was heard
 pub hears_date : {T W : Type 0} (Told : ToldBetween T W) (old new : Listener) (word : List ℕ) (w : Moment T W)
-    → length old.dates.held.items ≡ length old.held → new.last ≡ old.last → new.first ≡ old.first → new.held ≡ old.held
+    → length old.dates.held.items ≡ length old.held → new.past ≡ old.past → new.first ≡ old.first → new.held ≡ old.held
     → new.dates.held ≡ old.dates.held → kept_word new.dates.last ≡ word → Hears Told old new (Date word ∷ []) false w w
 hears_date Told old new word w dated kept first held same last start since heard s =
     let long : length old.dates.held.items ≡ length (faultless old.held) = dated ∙ sym (long_is old.held) in
-    rw (kept, held) (rw (← first) at (stands_date (Told start since w) old.last (date_from old)
+    rw (kept, held) (rw (← first) at (stands_date (Told start since w) old.past (date_from old)
     (λ place. date_at new.dates (place - old.first)) old.first (faultless old.held) 0 heard word s
     (λ place from below. date_here old.dates new.dates old.first (length (faultless old.held)) place same long from below)
     (λ place from. date_next old.dates new.dates old.first (length (faultless old.held)) place same long from ∙ last)))
@@ -253,7 +270,8 @@ new_waits start new = record {
   undecided = rw new.held undecided_nothing;
   few = rw new.held (omega arith);
   dated = rw (new.held, new.dated) refl;
-  own = rw new.no_last (tt, tt);
+  own = rw new.no_past (tt, tt);
+  preambles = rw new.no_past (omega arith);
 }
 
 -- no sighting after those told is decided
@@ -287,6 +305,6 @@ told_no_more Told a heard s waiting next claim =
 pub told_decided : (Told : List Dated → Type 0) (a : Listener) (heard : List Heard) (s : StandsFor Told false a heard) → IsWaiting a
     → AreDecided heard (s.before ++ map (moved_seen (total s.earlier)) s.seen)
 told_decided Told a heard s waiting = record {
-  first = told_first Told a.last (date_from a) a.first _ 0 heard s;
+  first = told_first Told a.past (date_from a) a.first _ 0 heard s;
   no_more = told_no_more Told a heard s waiting;
 }

@@ -6,6 +6,7 @@ use Rattle.hart_frame.specs.heard.Character.{faultless}
 use Rattle.hart_text.specs.Heard.{Heard, NothingBegins, ReadsHeard, heard_chars, stretches}
 use Rattle.hart_text.proofs.lemmas.Heard.{chars_on, heard_laws}
 use Rattle.hart_listen.specs.Dated.{dated_after}
+use Rattle.hart_listen.specs.Preambles.{counted, preambles_of}
 use Rattle.hart_listen.specs.Sightings.{date_of}
 use Rattle.hart_listen.proofs.lemmas.Grow.{dated_grows, one_decided}
 use Rattle.hart_listen.proofs.lemmas.InStretches.{one_seen}
@@ -23,8 +24,8 @@ use Rattle.hart_cli.proofs.lemmas.input.Reads.{grows, one_hearing}
 pub one_text : (style : Style) (xs ys : List Heard) (a b : List ℕ) → xs ≡ ys → IsTextIn style xs a → IsTextIn style ys b → a ≡ b
 one_text style xs ys a b same p q =
     let seen = one_seen 0 (stretches ys) p.seen q.seen (rw same at p.are_sightings) q.are_sightings in
-    let dates = ap (λ heard. text_in style (date_of heard) p.seen) same in
-    p.text_is ∙ (dates ∙ (ap (text_in style (date_of ys)) seen ∙ sym q.text_is))
+    let texts = ap (λ heard. text_in style heard p.seen) same in
+    p.text_is ∙ (texts ∙ (ap (text_in style ys) seen ∙ sym q.text_is))
 
 -- an input has only one fault and one list of what was heard
 pub one_heard : (is_raw : Bool) (input : List ℕ) (ending : Ending) (xs ys : List Heard) (f g : Option CliFault)
@@ -42,14 +43,15 @@ one_explanation style is_raw input ending f g xs ys p q =
 pub decided_text : (style : Style) (heard : List Heard) (xs ys : List ℕ) → IsDecidedIn style heard xs → IsDecidedIn style heard ys
     → xs ≡ ys
 decided_text style heard xs ys a b =
-    a.text_is ∙ (ap (text_in style (date_of heard)) (one_decided heard a.seen b.seen a.decided b.decided) ∙ sym b.text_is)
+    a.text_is ∙ (ap (text_in style heard) (one_decided heard a.seen b.seen a.decided b.decided) ∙ sym b.text_is)
 
 -- whatever is heard next, the text decided so far is a prefix of the whole text
 pub heard_grows : (style : Style) (heard more : List Heard) (told whole : List ℕ) → IsDecidedIn style heard told
     → IsTextIn style (heard ++ more) whole → (rest : List ℕ) × (whole ≡ told ++ rest)
 heard_grows style heard more told whole decided is =
     let (rest, grown) = dated_grows heard more decided.seen is.seen decided.decided is.are_sightings in
-    let begins = flat_map-append (text_of style) (dated_after (date_of heard) [] decided.seen) rest in
+    let begun = counted (preambles_of heard) 0 (dated_after (date_of heard) [] decided.seen) in
+    let begins = flat_map-append (text_of style) begun rest in
     let after = flat_map (text_of style) rest in
     (after, is.text_is ∙ (ap (flat_map (text_of style)) grown ∙ (begins ∙ ap (λ xs. xs ++ after) (sym decided.text_is))))
 

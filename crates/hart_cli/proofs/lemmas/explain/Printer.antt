@@ -6,10 +6,12 @@ use Rattle.hart_text.specs.Heard.{Heard}
 use Rattle.hart_listen.specs.Dated.{Dated, dated_after}
 use Rattle.hart_listen.specs.Dates.{date_from}
 use Rattle.hart_listen.specs.Listener.{IsNew, IsWaiting, StandsFor, total}
+use Rattle.hart_listen.specs.Preambles.{counted, last_stop, preambles_of}
 use Rattle.hart_listen.specs.Sightings.{date_of}
 use Rattle.hart_listen.specs.declared.listener.Listener.{Listener}
 use Rattle.hart_listen.proofs.lemmas.Listener.{told_decided}
-use Rattle.hart_listen.proofs.lemmas.Dated.{text_then}
+use Rattle.hart_listen.proofs.lemmas.Dated.{dated_then}
+use Rattle.hart_listen.proofs.lemmas.Preambles.{counted_then}
 use Rattle.hart_listen.proofs.lemmas.Stands.{stands_all, stands_none, stands_told, stands_whole}
 use Rattle.hart_frame.specs.heard.Character.{faultless}
 use Rattle.hart_frame.specs.heard.Sighting.{moved_seen}
@@ -44,14 +46,14 @@ printed_more p q w w1 d same takes style start since list h =
 pub prints_page : (style : Style) (start since : Stream) (l : Listener) (p q : Printer) (heard : List Heard) (w w1 : Stream)
     → q.style ≡ p.style → Takes p.page q.page w w1 [] → Prints style start since l p heard w → Prints style start since l q heard w1
 prints_page style start since l p q heard w w1 same takes s =
-    stands_told (IsPrinted style start since p w) (IsPrinted style start since q w1) l.last (date_from l) l.first (faultless l.held) 0
+    stands_told (IsPrinted style start since p w) (IsPrinted style start since q w1) l.past (date_from l) l.first (faultless l.held) 0
     false heard s (λ list h. record { style_is = same ∙ h.style_is; taken = rw append-nil at (takes start since _ h.taken) })
 
 -- the text stands from any moment on
 pub prints_since : (style : Style) (start since : Stream) (l : Listener) (p : Printer) (heard : List Heard) (w : Stream)
     → Prints style start since l p heard w → Prints style start w l p heard w
 prints_since style start since l p heard w s =
-    stands_told (IsPrinted style start since p w) (IsPrinted style start w p w) l.last (date_from l) l.first (faultless l.held) 0
+    stands_told (IsPrinted style start since p w) (IsPrinted style start w p w) l.past (date_from l) l.first (faultless l.held) 0
     false heard s (λ list h. record { style_is = h.style_is; taken = taken_since start since p.page _ w h.taken })
 
 -- what was told is the decided text, and it was written
@@ -60,9 +62,9 @@ pub prints_decided : (style : Style) (start since : Stream) (l : Listener) (p : 
     → (text : List ℕ) × IsDecidedIn style heard text × WritesAll start w text
 prints_decided style start since l p heard w s waiting quiet unfailed =
     let seen = s.before ++ map (moved_seen (total s.earlier)) s.seen in
-    let adds : AddsText start w [] [] (text_in style (date_of heard) seen) = rw (unfailed, quiet) at s.told.taken.kept in
-    let all : adds.written ≡ text_in style (date_of heard) seen = sym (append-nil adds.written) ∙ adds.whole in (
-      text_in style (date_of heard) seen,
+    let adds : AddsText start w [] [] (text_in style heard seen) = rw (unfailed, quiet) at s.told.taken.kept in
+    let all : adds.written ≡ text_in style heard seen = sym (append-nil adds.written) ∙ adds.whole in (
+      text_in style heard seen,
       record { seen = seen; decided = told_decided _ l heard s waiting; text_is = refl },
       rw all at adds.wrote,
     )
@@ -70,15 +72,23 @@ prints_decided style start since l p heard w s waiting quiet unfailed =
 -- what was told so far is the first part of the text of all that was heard
 pub prints_whole : (style : Style) (start since : Stream) (l : Listener) (p : Printer) (heard : List Heard) (w : Stream)
     → (s : Prints style start since l p heard w) → (more : List ℕ) × IsTextIn style heard
-    (text_in style (date_of heard) (s.before ++ map (moved_seen (total s.earlier)) s.seen) ++ more)
+    (text_in style heard (s.before ++ map (moved_seen (total s.earlier)) s.seen) ++ more)
 prints_whole style start since l p heard w s =
-    let (later, are) = stands_whole _ l.last (date_from l) l.first _ 0 false heard s in
-    let begun = s.before ++ map (moved_seen (total s.earlier)) s.seen in (
-      flat_map (text_of style) (dated_after (date_of heard) begun later),
+    let (later, are) = stands_whole _ l.past (date_from l) l.first _ 0 false heard s in
+    let begun = s.before ++ map (moved_seen (total s.earlier)) s.seen in
+    let first = dated_after (date_of heard) [] begun in
+    let next = dated_after (date_of heard) begun later in
+    let rest = counted (preambles_of heard) (last_stop 0 first) next in
+    let all : counted (preambles_of heard) 0 (dated_after (date_of heard) [] (begun ++ later))
+    ≡ counted (preambles_of heard) 0 first ++ rest =
+    ap (counted (preambles_of heard) 0) (dated_then (date_of heard) [] begun later)
+    ∙ counted_then (preambles_of heard) 0 first next in (
+      flat_map (text_of style) rest,
       record {
         seen = begun ++ later;
         are_sightings = are;
-        text_is = sym (text_then (text_of style) (date_of heard) [] begun later);
+        text_is = sym (ap (flat_map (text_of style)) all
+            ∙ flat_map-append (text_of style) (counted (preambles_of heard) 0 first) rest);
       },
     )
 
@@ -104,7 +114,7 @@ prints_end style start since l p q heard fault w w1 result s none takes quiet en
       text = _;
       is_text = record {
         seen = _;
-        are_sightings = stands_all _ l.last (date_from l) l.first heard told;
+        are_sightings = stands_all _ l.past (date_from l) l.first heard told;
         text_is = refl;
       };
       ends = ends_with q.page.failed fault result start w1 q.page.kept _ quiet end taken.kept;

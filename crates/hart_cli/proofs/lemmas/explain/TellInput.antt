@@ -12,7 +12,8 @@ use Rattle.hart_text.proofs.lemmas.Heard.{count, heard_few, heard_laws}
 use Rattle.hart_listen.specs.Dates.{date_from}
 use Rattle.hart_listen.specs.Listener.{IsNew, IsWaiting}
 use Rattle.hart_listen.specs.declared.listener.Listener.{Listener}
-use Rattle.hart_listen.proofs.lemmas.Listener.{long_is, new_waits}
+use Rattle.hart_listen.proofs.lemmas.Held.{long_is}
+use Rattle.hart_listen.proofs.lemmas.Listener.{new_waits}
 use Rattle.hart_listen.proofs.lemmas.Stands.{stands_count}
 use Rattle.hart_cli.specs.declared.calls.explain.printer.Printer.{Printer}
 use Rattle.hart_cli.specs.declared.calls.explain.printer.Style.{Style}
@@ -76,7 +77,7 @@ input_within input (CameTo TooLong) r r2 reads = omega (arith, reads.1)
 pub heard_count : (style : Style) (start since : Stream) (l : Listener) (p : Printer) (heard : List Heard) (w : Stream)
     → Prints style start since l p heard w → l.first + length l.held ≡ count heard
 heard_count style start since l p heard w s =
-    omega (arith, stands_count _ l.last (date_from l) l.first _ 0 heard s, long_is l.held)
+    omega (arith, stands_count _ l.past (date_from l) l.first _ 0 heard s, long_is l.held)
 
 -- twice the number of characters heard, and the length of the rest, add up to at most 2^64
 pub places_fit : (r r1 : Stream) (style : Style) (l : Listener) (p : Printer) (end : Option InputEnd) (rest : List ℕ) (read : ℕ)

@@ -7,7 +7,8 @@ use Rattle.hart_text.specs.Heard.{Heard, heard_chars}
 use Rattle.hart_text.proofs.lemmas.Heard.{chars_on, count_chars}
 use Rattle.hart_listen.specs.Listener.{IsNew, IsWaiting}
 use Rattle.hart_listen.specs.declared.listener.Listener.{Listener}
-use Rattle.hart_listen.proofs.lemmas.Listener.{faultless_on, long_is, new_waits}
+use Rattle.hart_listen.proofs.lemmas.Held.{long_is}
+use Rattle.hart_listen.proofs.lemmas.Listener.{faultless_on, new_waits}
 use Rattle.hart_cli.specs.declared.calls.explain.printer.Printer.{Printer}
 use Rattle.hart_cli.specs.declared.calls.explain.printer.Style.{Style}
 use Rattle.hart_cli.specs.declared.input.InputEnd.{InputEnd}
@@ -70,6 +71,14 @@ raw_fits r r1 r2 w w1 style l p read bytes end due reads =
     let more = read_more r r1 r2 due.input bytes (raw_limit - read) raw_limit end due.came.0 (omega (arith, due.came.1, due.count)) reads in
     let within = raw_within r r2 end (due.input ++ bytes) more in
     omega (arith, raw_count r r1 style l p None read w w1 due, within, due.count, length-append due.input bytes)
+
+-- a read gives no more bytes than were left within the limit
+pub portion_within : (r1 r2 : Stream) (bytes : List ℕ) (room : ℕ) (end : Option InputEnd) → ReadsPortion r1 r2 bytes room end
+    → length bytes ≤ room
+portion_within r1 r2 bytes room None reads = reads.2
+portion_within r1 r2 bytes room (Some Ended) reads = rw reads.2 (omega arith)
+portion_within r1 r2 bytes room (Some ReadFailed) reads = rw reads.1 (omega arith)
+portion_within r1 r2 bytes room (Some TooLong) reads = omega (arith, reads.1)
 
 -- what one read gave is told, and what was decided before that read was written in time
 pub raw_step : (r r1 r2 w w1 w2 : Stream) (style : Style) (old new : Listener) (p q : Printer) (read len : ℕ) (bytes : List ℕ)

@@ -8,7 +8,8 @@ ghost use Rattle.hart_cli.specs.explain.Dumped.{AreOfOneHearing};
 ghost use Rattle.hart_cli.specs.declared.calls.explain.printer.Style.{Style};
 ghost use Rattle.hart_cli.specs.declared.calls.explain.printer.Style.TheVariants.{Objects, Words};
 ghost use Rattle.hart_cli.specs.explain.Explain.{IsExplanation, decoding_of};
-ghost use Rattle.hart_listen.specs.Dated.{explanation, object_lines};
+ghost use Rattle.hart_listen.specs.Dated.{explanation};
+ghost use Rattle.hart_listen.specs.Preambles.{object_lines, preambles_of};
 ghost use Rattle.hart_listen.specs.Sightings.{ComeFirst, date_of};
 ghost use Rattle.hart_cli.specs.explain.Explanation.{IsDecidedIn, IsTextIn};
 ghost use Rattle.hart_cli.specs.explain.Told.{AreOfOneTelling};
@@ -36,7 +37,7 @@ pub fn json_tells_what_explain_tells()
         → (f ≡ g) × AreOfOneTelling (decoding_of is_raw) input ending g text lines }
     ensures decided { (heard : List Heard) (text lines : List ℕ) → IsDecidedIn Words heard text → IsDecidedIn Objects heard lines
         → (seen : List Seen) × ComeFirst heard seen × (text ≡ explanation (date_of heard) [] seen)
-        × (lines ≡ object_lines (date_of heard) [] seen) }
+        × (lines ≡ object_lines (date_of heard) (preambles_of heard) seen) }
 {}
 
 /// Let an input have no silences and no dates, and let `hart dump` and `hart explain` read it equally far. Both return the same fault, if

@@ -11,7 +11,7 @@ pub returns-in-Primary-clause-before : goal.returns-in-Primary-clause-before
 returns-in-Primary-clause-before c =
     let is = sym c.master.ensures ∙ c.in-Primary.is in
     before_is c.args.last.now (2 ^ 64 - 2) (moved c.args.first (found_of c.args.found.now)) c.hear_frame.result Primary c.requires.own is
-    c.hear_frame.ensures.answers c.hear_frame.ensures.sending
+    c.hear_frame.ensures.answers c.hear_frame.ensures.sending c.hear_frame.ensures.preambles
 
 pub returns-in-Primary-clause-alike : goal.returns-in-Primary-clause-alike
 returns-in-Primary-clause-alike c =
@@ -29,6 +29,7 @@ returns-in-Secondary-clause-before c =
     before_is c.args.last.now (2 ^ 64 - 2) (moved c.args.first (found_of c.args.found.now)) c.hear_frame-in-Secondary.result Secondary
     c.requires.own is
     c.hear_frame-in-Secondary.ensures.answers c.hear_frame-in-Secondary.ensures.sending
+    c.hear_frame-in-Secondary.ensures.preambles
 
 pub returns-in-Secondary-clause-alike : goal.returns-in-Secondary-clause-alike
 returns-in-Secondary-clause-alike c =

@@ -14,4 +14,4 @@ pub returns-clause-tells : goal.returns-clause-tells
 returns-clause-tells g c =
     let place = c.place_of.ensures ∙ sym (place-is c.args.first (seen_of c.args.sighting.now)) in
     let word = c.word_at-date.ensures.word ∙ ap (date_at c.args.dates.now) place in
-    rw (word, c.hear_sighting-before.ensures.before) at c.tell.ensures
+    rw (word, c.hear-before.ensures.before) at c.tell.ensures

@@ -1,4 +1,4 @@
-use Rattle.std.proofs.Common.{arith, drop, inr, refl}
+use Rattle.std.proofs.Common.{arith, drop, inr, length-drop, refl}
 use Rattle.std.proofs.lemmas.Grind.{common_steps}
 use Rattle.hart_station.proofs.device_lines.hear_text.Goals as goal
 
@@ -13,7 +13,7 @@ returns-then-place-text-clause-hears c =
         rest = drop place c.args.text.now;
         reads = read.reads;
         begins = grind (arith, common_steps);
-        more = grind (arith, common_steps);
+        more = grind (arith, common_steps, length-drop place c.args.text.now);
         no_piece = read.stops;
       },
       refl,

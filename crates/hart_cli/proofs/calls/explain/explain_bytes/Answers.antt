@@ -1,7 +1,7 @@
-use Rattle.std.proofs.Common.{◌≡◌, ◌≤◌, ◌∙◌, refl, arith, length, length-take, take, ◌+◌}
+use Rattle.std.proofs.Common.{◌≡◌, ◌≤◌, ◌∙◌, refl, arith, length, length-take, take, ◌+◌, ◌-◌}
 use Rattle.std.proofs.lemmas.Result.{err_from_is_err_and}
 use Rattle.hart_cli.specs.explain.Explanation.{IsDecidedIn}
-use Rattle.hart_cli.specs.input.Decoding.{raw_decoding}
+use Rattle.hart_cli.specs.input.Decoding.{raw_decoding, raw_limit}
 use Rattle.hart_cli.specs.input.Input.{most_at_once}
 use Rattle.hart_cli.specs.input.LiveInput.{IsDecidedText, WroteInTime}
 use Rattle.hart_cli.proofs.calls.explain.explain_bytes.Given.{Over}
@@ -9,7 +9,7 @@ use Rattle.hart_cli.proofs.calls.explain.explain_bytes.Goals.{After-read_portion
 use Rattle.hart_listen.specs.Teller.{moment}
 use Rattle.hart_cli.proofs.lemmas.explain.Printer.{prints_page}
 use Rattle.hart_cli.proofs.lemmas.explain.TellRaw.{RawUpTo, raw_fits, raw_more, raw_nothing, raw_outcome, raw_places_end, raw_step}
-use Rattle.hart_cli.proofs.lemmas.explain.TellRaw.{raw_stopped}
+use Rattle.hart_cli.proofs.lemmas.explain.TellRaw.{portion_within, raw_stopped}
 use Rattle.hart_cli.proofs.calls.explain.explain_bytes.Goals as goal
 
 pub loop-end-init : goal.loop-end-init
@@ -38,6 +38,14 @@ few g c =
     let long = length-take c.read_portion-portion.result.len c.read_portion-portion.new.buffer in
     let kept = c.read_portion-portion.ensures.kept ∙ c.loop-end.invariant.buffer_length in
     (omega (arith, within, long, kept), omega (arith, within, long))
+
+pub overflow_add-read : goal.overflow_add-read
+overflow_add-read g c =
+    let one = few g (goal.at.overflow_add-read g c).After-read_portion-portion in
+    let bytes = take c.read_portion-portion.result.len c.read_portion-portion.new.buffer in
+    let within = portion_within (g.R.Source.stream c.loop-end.reader) (g.R.Source.stream c.read_portion-portion.new.reader) bytes
+    (raw_limit - c.loop-end.read) c.read_portion-portion.result.end c.read_portion-portion.ensures.reads in
+    omega (arith, one.1, within, c.loop-end.invariant.within)
 
 -- what was read was heard, and its text was written unless a write failed
 heard : (g : Over) (c : After-write g)

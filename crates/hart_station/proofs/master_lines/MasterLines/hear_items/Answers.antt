@@ -1,4 +1,4 @@
-use Rattle.std.proofs.Common.{arith, drop, inr}
+use Rattle.std.proofs.Common.{arith, drop, inr, length-drop}
 use Rattle.std.proofs.lemmas.Grind.{common_steps}
 use Rattle.hart_station.proofs.master_lines.MasterLines.hear_items.Goals as goal
 
@@ -13,7 +13,7 @@ returns-then-place-items c =
         rest = drop place c.args.items.now;
         reads = read.reads;
         begins = grind (arith, common_steps);
-        more = grind (arith, common_steps);
+        more = grind (arith, common_steps, length-drop place c.args.items.now);
         no_piece = read.stops;
       },
       c.self.view_is,

@@ -13,12 +13,14 @@ use Rattle.hart_cli.specs.dump.Text.{dump_text}
 use Rattle.hart_cli.specs.explain.Dumped.{AreOfOneHearing}
 use Rattle.hart_cli.specs.explain.Explanation.{IsTextIn}
 use Rattle.hart_listen.specs.Dated.{explanation, words_of}
+use Rattle.hart_listen.specs.Preambles.{preambles_of}
 use Rattle.hart_listen.specs.Sightings.{AreSightingsFrom, date_of, undated}
 use Rattle.hart_cli.specs.input.Input.{Ending}
 use Rattle.hart_cli.specs.input.InputChars.{HasChars}
 use Rattle.hart_listen.proofs.lemmas.Dates.{no_date, same_dates}
 use Rattle.hart_listen.proofs.lemmas.Sightings.{moved_none}
 use Rattle.hart_listen.proofs.lemmas.InStretches.{stretches_chars}
+use Rattle.hart_listen.proofs.lemmas.Preambles.{words_same}
 use Rattle.hart_cli.proofs.lemmas.input.InputChars.{one_input}
 use Rattle.hart_cli.proofs.lemmas.input.NoMark.{plain_input}
 use Rattle.hart_cli.proofs.lemmas.input.Reads.{left_more, one_left}
@@ -38,6 +40,7 @@ of_one_hearing input ending xs ys heard fault lines text same is dump said has =
     let frames : dump.frames ≡ seen.frames =
     frames_are_unambiguous-one_list ys 0 dump.frames seen.frames (rw same at dump.are_frames) seen.are_frames in
     let all : said.seen ≡ parts.0 = parts.4 ∙ (ap (λ zs. map (moved_seen 0) parts.0 ++ zs) parts.3 ∙ (append-nil _ ∙ moved_none parts.0)) in
+    let words = words_same (preambles_of heard) 0 _ in
     let bare = ap (flat_map words_of) (same_dates (date_of heard) undated (rw is (no_date ys)) said.seen) in
     record {
       chars = ys;
@@ -45,7 +48,7 @@ of_one_hearing input ending xs ys heard fault lines text same is dump said has =
       frames = seen.frames;
       are_frames = seen.are_frames;
       dumped = dump.text ∙ ap dump_text frames;
-      explained = said.text_is ∙ (bare ∙ (ap (explanation undated []) all ∙ ap (explanation undated []) seen.seen_is));
+      explained = said.text_is ∙ (words ∙ (bare ∙ (ap (explanation undated []) all ∙ ap (explanation undated []) seen.seen_is)));
     }
 
 pub returns-clause-whole : goal.returns-clause-whole

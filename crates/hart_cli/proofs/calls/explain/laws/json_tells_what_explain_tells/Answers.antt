@@ -4,6 +4,7 @@ use Rattle.hart_cli.specs.declared.calls.explain.printer.Style.TheVariants.{Obje
 use Rattle.hart_cli.specs.declared.fault.CliFault.{CliFault}
 use Rattle.hart_cli.specs.explain.Explanation.{IsTextIn}
 use Rattle.hart_listen.specs.Dated.{explanation}
+use Rattle.hart_listen.specs.Preambles.{preambles_of}
 use Rattle.hart_listen.specs.Sightings.{date_of}
 use Rattle.hart_cli.specs.explain.Told.{AreOfOneTelling}
 use Rattle.hart_cli.specs.input.Decoding.{Decoding}
@@ -11,6 +12,7 @@ use Rattle.hart_cli.specs.input.Input.{Ending}
 use Rattle.hart_cli.proofs.lemmas.explain.Grow.{one_heard}
 use Rattle.hart_listen.proofs.lemmas.Grow.{one_decided}
 use Rattle.hart_listen.proofs.lemmas.InStretches.{one_seen}
+use Rattle.hart_listen.proofs.lemmas.Preambles.{words_same}
 use Rattle.hart_cli.proofs.calls.explain.laws.json_tells_what_explain_tells.Goals as goal
 
 -- an explanation and JSON lines of the same things heard tell the same sightings
@@ -24,7 +26,8 @@ one_telling decoding input ending xs ys fault text lines same has p q =
       has = has;
       seen = q.seen;
       are_sightings = q.are_sightings;
-      text_is = p.text_is ∙ (ap (λ heard. explanation (date_of heard) [] p.seen) same ∙ ap (explanation (date_of ys) []) seen);
+      text_is = p.text_is ∙ (words_same (preambles_of xs) 0 _ ∙ (ap (λ heard. explanation (date_of heard) [] p.seen) same
+          ∙ ap (explanation (date_of ys) []) seen));
       lines_are = q.text_is;
     }
 
@@ -36,4 +39,4 @@ returns-clause-told c is_raw input ending f g text lines p q =
 pub returns-clause-decided : goal.returns-clause-decided
 returns-clause-decided c heard text lines a b =
     let seen = one_decided heard a.seen b.seen a.decided b.decided in
-    (b.seen, b.decided.first, a.text_is ∙ ap (explanation (date_of heard) []) seen, b.text_is)
+    (b.seen, b.decided.first, a.text_is ∙ (words_same (preambles_of heard) 0 _ ∙ ap (explanation (date_of heard) []) seen), b.text_is)

@@ -1,0 +1,69 @@
+-- How many preamble bytes stand right before a message (implementation choice).
+use Rattle.std.specs.Prelude.{◌-◌, ◌++◌, ℕ, List, [], ◌∷◌, Option, None, Some, if◌then◌else◌, length, min, nat_le, nat_lt, replicate, take}
+use Rattle.std.specs.List.{flat_map, suffix_len}
+use Rattle.hart_frame.specs.heard.Character.{Character, faultless}
+use Rattle.hart_frame.specs.heard.Miss.{is_preamble}
+use Rattle.hart_frame.specs.heard.Sighting.{Message, Missed, Seen}
+use Rattle.hart_text.specs.Heard.{Heard, stretches}
+use Rattle.hart_listen.specs.Dated.{Dated, dated_after, line_of}
+
+-- How many intact preamble bytes FF characters end with.
+abbrev pub last_preambles : List Character → ℕ
+last_preambles chars = suffix_len is_preamble chars
+
+-- How many intact preamble bytes stand right before a place, in its own stretch. Places are counted through all stretches.
+abbrev pub preambles_in : List (List Character) → ℕ → ℕ
+preambles_in [] place = 0
+preambles_in (chars ∷ later) place =
+    if nat_lt place (length chars) then last_preambles (take place chars) else preambles_in later (place - length chars)
+
+-- How many intact preamble bytes stand right before a place in what was heard.
+abbrev pub preambles_of : List Heard → ℕ → ℕ
+preambles_of heard place = preambles_in (stretches heard) place
+
+-- The place after the last message, when one more sighting is seen. `stop` is the place after the last message before it, or 0.
+abbrev pub stop_after : ℕ → Seen → ℕ
+stop_after stop (Message found) = found.stop
+stop_after stop (Missed place miss header) = stop
+
+-- How many intact preamble bytes a message has: those right before its delimiter that do not belong to the message before it. `preambles`
+-- gives for each place how many stand right before it, and `stop` is the place after the message before. A miss has no number.
+abbrev pub own_preambles : (ℕ → ℕ) → ℕ → Seen → Option ℕ
+own_preambles preambles stop (Message found) = Some (min (preambles found.start) (found.start - stop))
+own_preambles preambles stop (Missed place miss header) = None
+
+-- A dated sighting with the number of its preamble bytes.
+abbrev pub counted_one : (ℕ → ℕ) → ℕ → Dated → Dated
+counted_one preambles stop told =
+    record told { before = record told.before { preambles = own_preambles preambles stop told.seen } }
+
+-- Dated sightings with the numbers of their preamble bytes. `stop` is the place after the last message before the first of them, or 0.
+abbrev pub counted : (ℕ → ℕ) → ℕ → List Dated → List Dated
+counted preambles stop [] = []
+counted preambles stop (told ∷ later) = counted_one preambles stop told ∷ counted preambles (stop_after stop told.seen) later
+
+-- The JSON lines of sightings, with their dates and their preamble bytes.
+abbrev pub object_lines : (ℕ → List ℕ) → (ℕ → ℕ) → List Seen → List ℕ
+object_lines date preambles seen = flat_map line_of (counted preambles 0 (dated_after date [] seen))
+
+-- The place after the last message of dated sightings. `stop` is the place after the last message before the first of them, or 0.
+abbrev pub last_stop : ℕ → List Dated → ℕ
+last_stop stop [] = stop
+last_stop stop (told ∷ later) = last_stop (stop_after stop told.seen) later
+
+-- Only private calls use the definitions from here on.
+
+-- Some preamble bytes, and then these characters.
+abbrev pub after_preambles : ℕ → List Character → List Character
+after_preambles preambles chars = replicate preambles (record { byte = 255; faults = 0 }) ++ chars
+
+-- How many intact preamble bytes stand right before a place in characters that begin at the place `first`. `preambles` of them stand right
+-- before these characters.
+abbrev pub preambles_at : ℕ → ℕ → List Character → ℕ → ℕ
+preambles_at preambles first chars place = last_preambles (after_preambles preambles (take (place - first) chars))
+
+-- How many intact preamble bytes stand right before what stays when the first `used` characters are dropped: held bytes, and maybe a
+-- damaged character after all of them. `preambles` of them stand right before the held bytes.
+abbrev pub preambles_dropped : ℕ → List ℕ → ℕ → ℕ
+preambles_dropped preambles held used =
+    if nat_le used (length held) then last_preambles (after_preambles preambles (faultless (take used held))) else 0
