@@ -183,8 +183,8 @@ pub fn fields_are_all_of_the_data()
         → bytes_of (fields_of (reply_rows reply.command) (content_bytes reply.content)) ≡ content_bytes reply.content }
 {}
 
-/// The table of commands is well made. A field has a name of at most 40 small letters, digits and `_`, which no other field of these data
-/// has, and a size that its kind allows. Data have at most 16 fields. Data of a request have at most seven, and no byte follows them. The
+/// The table of commands is well made. Field names have 1 to 40 small letters, digits and `_`, and no two fields of the same data share a
+/// name. A field has a size that its kind allows. Data have at most 16 fields. Data of a request have at most seven, and no byte follows them. The
 /// name of a command has at most 64 printable characters. A command needs at most 255 bytes.
 #[tactic(auto, using(crate::proofs::lemmas::WellMade::well_made))]
 pub fn the_table_is_well_made()

@@ -81,4 +81,5 @@ pub data ReadsWords (who : MasterId) (words : List (List ℕ)) : Result Ask Text
 -- What a line asks, or what is wrong with the line.
 pub data ReadsAsk (who : MasterId) (line : List ℕ) : Result Ask TextFault → Type 0 where
   unreadable : (number : ℕ) → IsFirstUnreadable (words_of line) number → ReadsAsk who line (Err (BadWord number))
-  readable : (result : Result Ask TextFault) → AreReadable (words_of line) → ReadsWords who (words_of line) result → ReadsAsk who line result
+  readable : (result : Result Ask TextFault) → AreReadable (words_of line) → ReadsWords who (words_of line) result
+      → ReadsAsk who line result

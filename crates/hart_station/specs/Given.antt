@@ -4,9 +4,10 @@ use Rattle.hart_commands.specs.Fields.{Field, Row}
 use Rattle.hart_request.specs.Fields.{place_for, value_in}
 use Rattle.hart_request.specs.Values.{value_of}
 
--- A field has the name and the kind of its row, and the bytes of the value in the field's word.
+-- A field has the name, its words and the kind of its row, and the bytes of the value in the field's word.
 pub record IsGiven (words : List (List ℕ)) (row : Row) (field : Field) : Type 0 where
   pub named : field.name ≡ row.name
+  pub in_words : field.words ≡ row.words
   pub meant : field.kind ≡ row.kind
   pub given : place_for words row < length words
   pub value : value_of row.kind row.size (value_in (get_or words (place_for words row) [])) ≡ Ok field.bytes

@@ -16,8 +16,8 @@ use itoa::Buffer;
 pub enum TextFault {
     /// The text has bad hex at this place, counted from 0. No separator and no item begins there.
     BadHex { place: usize },
-    /// This word is bad. The words of a request have the numbers 1 for WHO, 2 for ADDRESS, 3 for COMMAND and 4 for DATA. The words of a line
-    /// of a master are counted from 1.
+    /// This word is bad. The words of a request have the numbers 1 for WHO, 2 for ADDRESS, 3 for COMMAND and 4 for DATA. The words of a
+    /// line of a master are counted from 1.
     BadWord { number: u8 },
     /// The words of a request do not give the fields of its command.
     BadField(BadField),

@@ -4,7 +4,7 @@ ghost use Rattle.hart_station.specs.Station.{bad_line, input_limit};
 
 use hart_values::ByteList;
 
-/// The greatest number of bytes in a line of a station, and in an input that is read whole.
+/// The greatest number of bytes in a line of a station, and in an input of `answer`, `dump` and `sim`.
 pub const INPUT_LIMIT: usize = 1_048_576;
 
 /// The greatest number of characters in a line. Each character takes at least two bytes of the line.

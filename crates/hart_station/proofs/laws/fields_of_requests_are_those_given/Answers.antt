@@ -167,11 +167,11 @@ more : (words : List (List ℕ)) (name shown : List ℕ) (kind : FieldKind) (siz
 more words name shown kind (Exactly size) rows value later suit last place is none falls =
     let long = length-value kind size _ value (and_parts (suits kind size) (nat_le size 32) suit).0 is in
     rw (first_field name shown kind size rows value later long)
-    ((record { named = refl; meant = refl; given = place; value = is }, falls.0), ap (λ bs. value ++ bs) falls.1)
+    ((record { named = refl; in_words = refl; meant = refl; given = place; value = is }, falls.0), ap (λ bs. value ++ bs) falls.1)
 more words name shown kind (AllBut after) [] value later suit last place is none falls =
     let some = some_codes (value_in (get_or words (place_for words (a_row name shown (AllBut after) kind)) [])) value is in
     rw (none refl, append-nil value, eqb-true after 0 last, last_field name shown kind value some)
-    ((record { named = refl; meant = refl; given = place; value = is }, tt), append-nil value)
+    ((record { named = refl; in_words = refl; meant = refl; given = place; value = is }, tt), append-nil value)
 more words name shown kind (AllBut after) (row ∷ rows) value later suit last place is none falls = absurd cc
 
 -- nothing comes after the last field
