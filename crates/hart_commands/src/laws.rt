@@ -184,8 +184,8 @@ pub fn fields_are_all_of_the_data()
 {}
 
 /// The table of commands is well made. Field names have 1 to 40 small letters, digits and `_`, and no two fields of the same data share a
-/// name. A field has a size that its kind allows. Data have at most 16 fields. Data of a request have at most seven, and no byte follows them. The
-/// name of a command has at most 64 printable characters. A command needs at most 255 bytes.
+/// name. A field has a size that its kind allows. Data have at most 16 fields. Data of a request have at most seven, and no byte follows
+/// them. The name of a command has at most 64 printable characters. A command needs at most 255 bytes.
 #[tactic(auto, using(crate::proofs::lemmas::WellMade::well_made))]
 pub fn the_table_is_well_made()
     ensures requests { (command : ℕ) → are_request_rows (request_rows command) ≡ true }

@@ -168,7 +168,7 @@ stopped : (decoding : Decoding (List Heard)) (limit : ℕ) (r r2 w w2 : Stream) 
 stopped decoding limit r r2 w w2 style (Ok done) stops never = absurd never
 stopped decoding limit r r2 w w2 style (Err it) stops is = rw is stops
 
--- once the rest is told and written, the call has its outcome
+-- a call that has told and written the rest has the outcome that is defined
 pub outcome : (decoding : Decoding (List Heard)) (limit : ℕ) (r r2 w w1 w2 : Stream) (style : Style) (input : List ℕ)
     (heard : List Heard) (fault : Option CliFault) (result : Result (Unit {0}) CliFault)
     → ((it : CliFault) (text : List ℕ) → ReadsText decoding limit (IsTextIn style) r r2 (Some it) text → WritesAll w w2 text

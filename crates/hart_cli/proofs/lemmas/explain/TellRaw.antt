@@ -57,7 +57,7 @@ raw_within r r2 (Some Ended) input came = came.2
 raw_within r r2 (Some ReadFailed) input came = came.1
 raw_within r r2 (Some TooLong) input came = omega (arith, came.1)
 
--- as many characters were heard as bytes were read
+-- the number of heard characters is the number of read bytes
 raw_count : (r r1 : Stream) (style : Style) (l : Listener) (p : Printer) (end : Option InputEnd) (read : ℕ) (w w1 : Stream)
     → RawUpTo r r1 style l p end read w w1 → l.first + length l.held ≡ read
 raw_count r r1 style l p end read w w1 due =
