@@ -1,31 +1,30 @@
 -- The texts of faults (implementation choice).
-use Rattle.std.specs.Prelude.{◌++◌, ◌∷◌, [], ℕ, List, codes, decimal}
+use Rattle.std.specs.Prelude.{◌++◌, ◌∷◌, [], ℕ, List, codes}
 use Rattle.hart_device.specs.FaultText.{device_fault_text}
 use Rattle.hart_line.specs.FaultText.{line_fault_text}
 use Rattle.hart_line.specs.declared.fault.LineFault.{LineFault}
 use Rattle.hart_line.specs.declared.fault.LineFault.TheVariants as line_faults
 use Rattle.hart_cli.specs.declared.fault.CliFault.{CliFault}
 use Rattle.hart_cli.specs.declared.fault.CliFault.TheVariants.{Read, Write, TooLong, BadHex, Line, Image, Memory, BadWord, BadField}
-use Rattle.hart_request.specs.FaultText.{reason_text}
+use Rattle.hart_station.specs.FaultText as text_faults
 use Rattle.hart_station.specs.declared.fault.TextFault.{TextFault}
 use Rattle.hart_station.specs.declared.fault.TextFault.TheVariants as texts
 
--- The text of a fault, without the reason why a word of `hart request` is bad. The place of bad hex and the number of a bad word are in
--- decimal.
+-- The text of a fault, without the reason why a word of `hart request` is bad. The texts of bad hex and of bad words are those of a line.
 abbrev pub text_before_reason : CliFault → List ℕ
 text_before_reason Read = codes "read fault"
 text_before_reason Write = codes "write fault"
 text_before_reason TooLong = codes "input too long"
-text_before_reason (BadHex place) = codes "bad hex at " ++ decimal place
+text_before_reason (BadHex place) = text_faults.text_before_reason (texts.BadHex place)
 text_before_reason (Line fault) = line_fault_text fault
 text_before_reason (Image fault) = device_fault_text fault
 text_before_reason (Memory none) = codes "out of memory"
-text_before_reason (BadWord number) = codes "bad word " ++ decimal number
-text_before_reason (BadField bad) = codes "bad word " ++ decimal bad.number ++ codes ": "
+text_before_reason (BadWord number) = text_faults.text_before_reason (texts.BadWord number)
+text_before_reason (BadField bad) = text_faults.text_before_reason (texts.BadField bad)
 
 -- The text of the reason of a `BadField`. For any other fault, the text is empty.
 abbrev pub reason_of : CliFault → List ℕ
-reason_of (BadField bad) = reason_text bad.fault
+reason_of (BadField bad) = text_faults.reason_of (texts.BadField bad)
 reason_of _ = []
 
 -- The whole text of a fault, with the reason if there is one.
