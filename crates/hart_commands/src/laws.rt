@@ -131,6 +131,7 @@ pub fn writes_set_these_registers()
 {}
 
 /// The configuration writes are Commands 6, 17, 18, 19 and 22.
+#[tactic(auto, using(std::proofs::lemmas::Bool::Decides::nat_tests), unfolding(crate::specs::Commands::written_by))]
 pub fn configuration_writes_have_these_numbers()
     ensures { (command : ℕ) → is_write command
         ≡ ((command == 6) || (command == 17) || (command == 18) || (command == 19) || (command == 22)) }
@@ -176,6 +177,7 @@ pub fn fields_are_the_parts()
 
 /// The fields cover all data: the bytes of a well-made request's fields, one after another, are all of the request's data. The same is true
 /// of the fields of a well-made reply.
+#[tactic(auto, using(crate::proofs::lemmas::Laws::all_of_the_data))]
 pub fn fields_are_all_of_the_data()
     ensures request { (request : Request) → IsRequest request
         → bytes_of (fields_of (request_rows (command_of request)) (request_data request)) ≡ request_data request }
@@ -196,6 +198,7 @@ pub fn the_table_is_well_made()
 
 /// The kind of a field limits its number of bytes: 4 for a float, 3 for a date, 1 or 2 for a number, 6, 12 or 24 for a packed text, and 8
 /// for each device variable. These limits hold for the fields of any request data and of any payload that is read as a reply.
+#[tactic(auto, using(crate::proofs::lemmas::FieldWidths::widths_of_kinds))]
 pub fn fields_have_the_width_of_their_kind()
     ensures request { (command : ℕ) (bytes : List ℕ) → All HasWidthOfKind (fields_of (request_rows command) bytes) }
     ensures reply { (command : ℕ) (payload : List ℕ) (reply : Reply) → reply_reading command payload ≡ Some reply

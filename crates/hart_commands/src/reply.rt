@@ -33,6 +33,7 @@ impl Reply {
     /// let reply = Reply::read(16, &[0x00, 0x40, 0x01, 0x23, 0x45]).ok_or("no reply")?;
     /// assert_eq!(rt; reply.content, ReplyContent::Assembly([0x01, 0x23, 0x45]));
     /// ```
+    #[tactic(auto, using(crate::proofs::lemmas::Reply::result_made))]
     pub fn read(command: u8, payload: &[u8]) -> Option<Self>
         ensures read { result ≡ reply_reading command payload.now }
         ensures well_made { IfSome result IsReply }

@@ -203,6 +203,7 @@ pub fn unit_name(code: u8) -> Option<&'static str>
 }
 
 /// Returns the row of a unit code, if it has one.
+#[tactic(auto, unfolding(crate::specs::Fields::text, crate::specs::Units::unit_row))]
 fn row_of(code: u8) -> Option<&'static UnitRow>
     ensures { option_map (λ row. seen_unit row.now) result ≡ unit_row code }
 {

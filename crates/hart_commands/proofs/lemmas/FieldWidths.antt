@@ -126,3 +126,6 @@ pub fields_have_the_width_of_their_kind-reply : (command : ℕ) (payload : List 
     → All HasWidthOfKind (fields_of (reply_rows command) (take (length (content_bytes reply.content)) (drop 2 payload)))
 fields_have_the_width_of_their_kind-reply command payload reply read =
     of_reply (known command) command payload reply read (of_known SuitsReplies command replies_suited)
+
+-- the fields of requests and of replies have the widths of their kinds
+pub ruleset widths_of_kinds = (fields_have_the_width_of_their_kind-request, fields_have_the_width_of_their_kind-reply)

@@ -61,6 +61,9 @@ pub fields_are_all_of_the_data-reply : (reply : Reply) → IsReply reply
     → bytes_of (fields_of (reply_rows reply.command) (content_bytes reply.content)) ≡ content_bytes reply.content
 fields_are_all_of_the_data-reply reply is = grind (arith, common_steps, bytes-each, parts_of_reply)
 
+-- the fields of requests and of replies are all of their data
+pub ruleset all_of_the_data = (fields_are_all_of_the_data-request, fields_are_all_of_the_data-reply)
+
 pub overwrites_are_valid : (write : Request) (old : Contents) → IsRequest write → AreValid old → AreValid (overwritten write old)
 unfolding written_by
 overwrites_are_valid write old made valid = search rules

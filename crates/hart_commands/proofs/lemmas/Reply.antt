@@ -150,6 +150,6 @@ pub read-made : (command : ℕ) (payload : List ℕ) (reply : Reply) → reply_r
     → IsReply reply × (reply.command ≡ command)
 read-made command payload reply e = let own = (kept command payload reply e).own in ((payload, cc), own)
 
-pub result-made : (command : ℕ) (payload : List ℕ) (result : Option Reply) → result ≡ reply_reading command payload → IfSome result IsReply
-result-made command payload None e = tt
-result-made command payload (Some reply) e = (read-made command payload reply (sym e)).0
+pub result_made : (command : ℕ) (payload : List ℕ) (result : Option Reply) → result ≡ reply_reading command payload → IfSome result IsReply
+result_made command payload None e = tt
+result_made command payload (Some reply) e = (read-made command payload reply (sym e)).0

@@ -16,6 +16,7 @@ pub fn push_current(loop_current: Bits32, percent_of_range: Bits32, payload: &mu
 }
 
 /// Adds a loop current, then values with their units, at the end of a payload.
+#[tactic(auto, using(std::proofs::Common::append_assoc, crate::proofs::lemmas::Parts::joined_values))]
 pub fn push_dynamic(loop_current: Bits32, values: &[UnitValue], payload: &mut Payload)
     requires few { length values.now ≤ 4 }
     requires room { length payload.old ≤ 2 }
