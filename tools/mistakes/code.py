@@ -128,7 +128,7 @@ def packed(lines):
 def blocks_of(text, indent=""):
     """The items that stand at this indent, each with the attributes above it. What begins no item belongs to the one before."""
     found = []
-    for block in re.findall(rf"((?:.*\n)*?(?:#!.*|{indent}(?![ #]).*[;}}]|.+\Z))(?:\n|$)", text):
+    for block in re.findall(rf"((?:.*\n)*?(?:#!.*|{indent}(?![ #]).*(?:=\n(?:.*\n)*?.*;|[;}}])|.+\Z))(?:\n|$)", text):
         is_item = START.match(HEAD.search(block)[1])
         found.append(block if is_item or not found else f"{found.pop()}\n{block}")
     return found
