@@ -2,8 +2,9 @@
 """Measures `hart dump` on inputs of the largest size, in one run on one machine. It asserts no time.
 
 Prints for each input characters a second, the ratio of its time to that of `xxd -r -p` over the same text, and the ratio of its
-time a character to that of the clean frames; then the same for texts of one kind that are spelled otherwise, the time of an empty
-input, and the greatest memory of the process for a short input and a long one. Each time is the best of several runs of the whole
+time a character to that of the clean frames. Then it prints the characters a second of preamble bytes alone, one on each line, and of
+items of which every eighth has fault bits, without these ratios; the time of an empty input; and the greatest memory of the process
+for a short input and a long one. Each time is the best of several runs of the whole
 program, from its start to its end, with its output thrown away. Beside it stand the instructions for each byte of the text, by
 valgrind where it is there, and how they grow from the first 64 KiB to the whole.
 
@@ -39,7 +40,7 @@ def repeated(piece, length):
 
 
 def inputs(length):
-    """Each kind of input by its name, as so many characters."""
+    """Returns the inputs by their names, each of `length` characters."""
     request = with_check_byte(bytes.fromhex("82B7420A1B2C1303012345"))
     message = b"\xff" * 5 + request
     noise = random.Random(1).randbytes(length)
@@ -66,7 +67,7 @@ def dense(characters):
 
 
 def other_texts():
-    """Texts by their names, each with the number of its characters."""
+    """Returns further texts by their names, each with the number of its characters."""
     alone = b"FF\n" * SPACED
     piece = b"FF " * 7 + b"FF!10 "
     faulty = piece * (INPUT_LIMIT // len(piece))
@@ -89,7 +90,7 @@ def best_time(command, text, runs):
 
 
 def greatest_memory(program, text):
-    """The most memory that a run of the program has held once it waits for more than this text, in KiB."""
+    """Returns the peak memory of a run of `hart dump`, in KiB, half a second after it was given this text and while it waits for more."""
     with subprocess.Popen([program, "dump"], stdin=subprocess.PIPE, stdout=subprocess.DEVNULL) as child:
         child.stdin.write(text)
         child.stdin.flush()

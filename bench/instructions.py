@@ -23,7 +23,7 @@ def instructions(command, text):
 
 
 def first_part(text):
-    """The pieces that a text begins with, up to that size: lines, or items if it is one line."""
+    """Returns the first whole lines of a text, at most PART bytes; if the first line is longer, its first whole items."""
     stop = text.rfind(b"\n", 0, PART)
     if stop < 0:
         stop = text.rfind(b" ", 0, PART)
@@ -31,7 +31,7 @@ def first_part(text):
 
 
 def counted(command, text):
-    """In words, the instructions of a run for each byte of a text, the start not counted, and how they grow from its first part."""
+    """Returns in words the instructions for each byte of a text, without those of an empty run, and how they grow from its first part."""
     start = instructions(command, b"")
     if start is None:
         return "no valgrind"

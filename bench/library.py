@@ -2,8 +2,8 @@
 """Measures the scan by the library for C against the same scan from Rattle, in memory. It asserts no time.
 
 Prints for each input the ratio of the time of the scan from C, with room for 64 frames a call, to that of bench/scan, and the nanoseconds
-a byte of both; then, where valgrind is there, the same of the instructions. Each time is the best of several runs of the whole program,
-in turn with those of the other. A run scans 1 MiB 40 times.
+a byte of both; then, if valgrind is installed, the same of the instructions. Each time is the best of several runs of the whole program.
+The runs of the two programs alternate. A run scans 1 MiB 40 times.
 
 It proves and builds both, over the crates of this tree, in folders of its own; that takes some minutes. It fails if the two programs print
 different sums of the places where frames start.
@@ -36,7 +36,7 @@ def linked(folder):
 
 
 def instructions_a_byte(program, characters):
-    """The instructions of two scans more, by byte, or None without valgrind."""
+    """Returns the instructions of a scan for each byte: what two further scans add, halved; None without valgrind."""
     few, more = (instructions([program, word], characters) for word in ("1", "3"))
     return (more - few) / (2 * len(characters)) if few else None
 

@@ -3,7 +3,7 @@
 
 Prints for each input the ratio of this tree's time to the other commit's, and the nanoseconds a byte of both; then the same for the
 floor, a fold of the bytes by exclusive or, which is equal code in both: its ratio says how far apart equal programs are measured.
-Each time is the best of several runs of the whole program, in turn with those of the other. A run scans 1 MiB 200 times, or
+Each time is the best of several runs of the whole program. The runs of the two programs alternate. A run scans 1 MiB 200 times, or
 folds it a thousand times.
 
 It builds bench/scan over hart_values and hart_frame, those of this tree and those of the commit, in a folder of its own; it proves
@@ -43,7 +43,7 @@ FOLDS = 1000
 
 
 def copy_tree(copy):
-    """Copies what is built from this tree, as it stands."""
+    """Copies the files of COPIED from this tree, with changes that are not committed."""
     for name in COPIED:
         place = copy / name
         place.parent.mkdir(parents=True, exist_ok=True)
@@ -54,14 +54,14 @@ def copy_tree(copy):
 
 
 def copy_commit(copy, commit):
-    """Copies the same from a commit."""
+    """Copies the files of COPIED from a commit."""
     copy.mkdir()
     archive = subprocess.run(["git", "-C", ROOT, "archive", commit, *COPIED], stdout=subprocess.PIPE, check=True).stdout
     subprocess.run(["tar", "-x", "-C", copy], input=archive, check=True)
 
 
 def built(copy):
-    """The program over the crates in this folder, proved and built."""
+    """Proves and builds the program bench_scan over the crates in this folder, and returns its path."""
     graph = copy / "crates.txt"
     lines = [line for line in graph.read_text().splitlines() if line.partition(":")[0] in CRATES]
     graph.write_text("\n".join([*lines, "bench_scan: hart_values hart_frame", ""]))
@@ -75,7 +75,7 @@ def built(copy):
 
 
 def best_times(programs, word, characters, runs):
-    """The best time of each program with this word, in seconds."""
+    """Returns the best time of each program, in seconds. `word` says how often it scans. Ends the script if their outputs differ."""
     best = [float("inf")] * len(programs)
     with tempfile.TemporaryFile() as file:
         file.write(characters)

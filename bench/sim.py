@@ -32,14 +32,14 @@ def repeated_lines(lines, size):
 
 
 def noise_lines(size):
-    """Lines of 500 characters of noise each, in which no two preamble bytes stand side by side."""
+    """Returns lines of 500 characters of noise each, none of which is FF, so that no message can begin."""
     source = random.Random(1)
     line = b"noise " + bytes(source.randrange(255) for _ in range(500)).hex().encode() + b"\n"
     return repeated_lines(line, size)
 
 
 def scripts(size):
-    """Each kind of script by its name, of at most so many bytes."""
+    """Returns the scripts by their names, each of at most `size` bytes."""
     return {
         "submissions, each with a clean turn": repeated_lines(SUBMISSION + CLEAN_TURN, size),
         "submissions, each with four turns whose reply is lost": repeated_lines(SUBMISSION + 4 * LOST_TURN, size),

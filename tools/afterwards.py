@@ -25,7 +25,7 @@ def looks():
 
 
 def is_plain_read(heard, reply):
-    """Whether a delivery read something and could leave nothing behind."""
+    """Whether a delivery was a request that was carried out and that writes and resets nothing. It may still clear a cold start bit."""
     answer = lone(reply) if reply and heard != RESTART else None
     return answer is not None and answer.payload[0] == commands.SUCCESS and answer.command not in (*commands.WRITES, RESET)
 
@@ -52,7 +52,7 @@ def carried_out(device, command, data, master):
 
 
 def left(device, heard, reply):
-    """The device after something that happened to it: what was heard, or a restart, and the reply, or "" for silence."""
+    """Returns the device after a restart, or after what it heard and its reply, "" for silence."""
     if heard == RESTART:
         return dataclasses.replace(device, cold_start={"P": True, "S": True})
     answer = lone(reply) if reply else None

@@ -6,7 +6,8 @@ variable within 1.0 s when nothing is lost, write a tag, find a device by its ta
 retries. A refused write ends with status 3, wrong words end with status 2, and a dead device with status 1 in the time of the limits.
 A line that is never silent and a signal end hart-ask with status 1, and RTS is set only while it sends.
 
-On a busy machine each of these may take longer by what the machine is late. What fails is tried again, five times at most.
+On a busy machine each of these may take longer by the time that the machine is late. A check that fails is repeated: it is tried five
+times at most in all.
 
 Usage: tools/ask.py PROGRAM
 """
@@ -175,7 +176,7 @@ def asked(device, program, row):
 
 
 def check(row, ended, heard):
-    """Ends the script if a row with this number of messages did not come out as wanted."""
+    """Raises `Failed` if a row ended otherwise than it says. `heard` is the number of messages that hart-ask sent."""
     said = ended.stdout + ended.stderr
     if ended.returncode != row.status:
         fails(f"{row.name}: status {ended.returncode}, and {row.status} is wanted: {said}")
@@ -234,7 +235,7 @@ def try_signals(device, program):
 
 
 def calls_of_sending(module, write):
-    """The calls of a port that sending makes, with this call in the place of `os.write`."""
+    """Returns the names of the calls that hart-ask makes at a port to send a message, with `write` in place of `os.write`."""
     port, terminal = os.openpty()
     tty.setraw(terminal)
     calls = []

@@ -56,7 +56,7 @@ class Wrong(Exception):
 
 
 def only_frame(line):
-    """The only frame of a line. Where the machine was too slow for a silence between two messages, there are two."""
+    """Returns the only frame of a line. Raises `Wrong` if there is none, or if a slow machine left no silence between two."""
     found = frame_of(line)
     if found is None:
         raise Wrong(f"{line} has not one frame")
@@ -84,7 +84,7 @@ class Device:
         self.replies, self.writes, self.spoke = 0, 0, 0.0
 
     def hears(self, line):
-        """Lets the device hear a message, apart from what it heard before."""
+        """Lets the device hear a message, after a silence that separates it from the last one."""
         time.sleep(max(self.spoke + SILENCE - now(), 0))
         self.port.send(bytes.fromhex(line))
         self.spoke = now()
@@ -168,7 +168,7 @@ class BadLine:
         self.sendings = 0
 
     def play(self, words):
-        """Lets a gateway with these words talk to the device, and returns the replies that it must have printed."""
+        """Lets a gateway with these words talk to the device. Returns the lines that it printed; raises `Wrong` if others were wanted."""
         self.lines = []
         # A pseudo-terminal has no parity. The C library refuses attributes if it can make none of the changes.
         tty.setraw(self.terminal)
@@ -194,7 +194,7 @@ def shown(frame):
 
 
 def try_device(gateway, program):
-    """A gateway polls the bench device while the plan goes wrong, and returns the number of its requests."""
+    """Lets a gateway poll the bench device nine times; the whole plan has to happen. Returns the number of its requests."""
     with started(program) as device:
         line = BadLine(device, PLAN)
         lines = line.play([gateway, "9"])
@@ -205,7 +205,7 @@ def try_device(gateway, program):
 
 
 def ask_own(line, gateway, polls, command, data, code, wanted):
-    """A gateway asks for a command of the device's own, between polls. Returns the number of its requests."""
+    """Lets a gateway ask for a command of the device's own, between polls. Returns the number of its requests."""
     lines = line.play([gateway, str(polls), str(command), data])
     shown = [text for text in lines if text.startswith(f"command {command},") and "no reply" not in text]
     if not shown or not all(re.search(f": code {code}, status [0-9A-F]{{2}}{wanted}$", text) for text in shown):
@@ -214,7 +214,7 @@ def ask_own(line, gateway, polls, command, data, code, wanted):
 
 
 def try_own(gateway, program):
-    """A gateway asks a device for the device's own commands, at a line that is bad at first. Returns the number of its requests."""
+    """Lets a gateway ask a device for the device's own commands, at a line that is bad at first. Returns the number of its requests."""
     with started(program) as device:
         line = BadLine(device, PLAN)
         count = sum(ask_own(line, gateway, *row) for row in OWN)
@@ -225,7 +225,7 @@ def try_own(gateway, program):
 
 
 def patiently(test, *words):
-    """Runs a test that needs a clock, and runs it again if it fails, since the machine may have been too slow; at most a few times."""
+    """Runs a test that needs a clock, at most MOST_RUNS times until it passes, since the machine may have been too slow."""
     for _ in range(MOST_RUNS - 1):
         try:
             return test(*words)

@@ -153,7 +153,7 @@ class started:
 
 
 def patiently(test, *words):
-    """Runs a test that needs a clock, and runs it again if it fails, since the machine may have been too slow; at most a few times."""
+    """Runs a test that needs a clock, at most MOST_RUNS times until it passes, since the machine may have been too slow."""
     for _ in range(MOST_RUNS - 1):
         try:
             return test(*words)
@@ -163,8 +163,8 @@ def patiently(test, *words):
 
 
 def watched(bench, kind, plan, *words):
-    """Lets a master ask under a plan of faults, or under faults by chance that words name. Returns the master, the status of the bench and
-    its report.
+    """Lets a master ask under a plan of faults. If there are words for faults by chance, the plan only says how many sendings there are.
+    Returns the master, the status of the bench and its report.
     """
     words = words or ("--plan", ",".join(plan))
     times = ["--gap", GAP_MS, "--limit", str(1000 * LIMIT / 2), "--delay", DELAY_MS]
@@ -177,7 +177,7 @@ def watched(bench, kind, plan, *words):
 
 
 def table(report, begin):
-    """The numbers of a table in a report, by the words before them; the table begins with a word."""
+    """Returns the numbers of a table in a report, by the words before them. The head of the table begins with the word `begin`."""
     lines = report[report.index(f"{begin} "):].splitlines()[1:]
     rows = (re.fullmatch(r"(\S.*?)((?:\s+\d+){2,})", line) for line in lines)
     return {row[1]: [int(number) for number in row[2].split()] for row in itertools.takewhile(bool, rows)}

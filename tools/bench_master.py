@@ -32,7 +32,7 @@ class Master:
         os.close(self.port)
 
     def hear(self, patience):
-        """What comes within so many seconds, up to a gap."""
+        """Returns the bytes that come before a pause of GAP seconds, none if nothing comes within `patience` seconds."""
         heard, end = b"", time.monotonic() + patience
         while select.select([self.port], [], [], max(end - time.monotonic(), 0))[0]:
             heard += os.read(self.port, 4096)

@@ -49,7 +49,8 @@ def files_of(name):
 
 
 def sums_of(every):
-    """By crate, the sum of the toolchain's name and of all source files of the crate and of those below it."""
+    """Returns by crate a checksum of the toolchain's version, and of the source files and the lines of crates.txt of the crate and of those
+    below it."""
     kit, own, found = version(), {}, {}
     for name, crate in every.items():
         digest = hashlib.sha256(crate.line.encode())
@@ -108,8 +109,8 @@ class Progress:
 
 
 def next_tasks(every, left, running, done, lanes):
-    """The libraries that can begin now, each with its jobs: a processor each, and more where too few can run to use them all. What cannot be
-    shared out evenly goes to the first, since the others wait for it."""
+    """Returns the libraries that can begin now, each with its number of jobs. The idle processors are shared out evenly, at most MOST_JOBS
+    to each. The remainder goes to the first ones, since most other crates wait for them."""
     ready = [it for it in left if set(every[it].below) <= done]
     # Those below the most other crates come first.
     ready.sort(key=lambda it: -sum(it in other.below for other in every.values()))
@@ -123,7 +124,7 @@ def next_tasks(every, left, running, done, lanes):
 
 
 def build_all(every, names, sums, done, lanes):
-    """Builds these libraries side by side, over those that are done, and returns the one that is not proved, if there is one."""
+    """Builds these libraries side by side, over those in `done`. Stops at the first one that is not proved, and returns its name."""
     left, running, progress = list(names), {}, Progress(len(names))
     with ThreadPoolExecutor(lanes) as pool:
         while left or running:

@@ -15,8 +15,8 @@ class Failed(Exception):
 
 
 class Busy(threading.Thread):
-    """Sleeps again and again while a `with` block runs. `late` is how late these sleeps ended in all, in seconds: 0 on an idle machine. A
-    process that sleeps as often is as late."""
+    """Sleeps again and again while a `with` block runs. `late` is how late these sleeps ended in all, in seconds: 0 on an idle machine.
+    A program that waits as often in this time is expected to be as late."""
 
     def __init__(self):
         super().__init__(daemon=True)

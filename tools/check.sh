@@ -1,10 +1,11 @@
 #!/usr/bin/env bash
-# Runs the gate, with its own status:
+# Runs the gate. It ends with status 0 if everything passed:
 #
+#   - Scripts that need neither the program nor the library come first.
 #   - `rt ci` proves every crate from scratch, with its tests, and runs the program and the tests. It works on a copy of the crates
 #     without their wrong bodies, since it would prove a crate once more for its first wrong body.
-#   - Beside it, on processors that it leaves idle, the library for C is built in the tree, and then tools/mistakes.py tries the wrong
-#     bodies whose refusal may have changed, and a sample of the others. Scripts that need no program follow.
+#   - Beside it, at a lower priority, the library for C is built in the tree, and then tools/mistakes.py tries the wrong bodies whose
+#     refusal may have changed, and a sample of the others. Its own test, scripts that need no program, and scripts on the library follow.
 #   - As soon as `rt ci` has built the program, scripts run on it side by side, beside the proofs of the tests. Scripts that need these
 #     tests or measure times come at the end.
 #

@@ -1,8 +1,8 @@
 #!/usr/bin/env python3
 """Holds the built program against a plain model of it, on random frames, noise, damage, scripts, images and words.
 
-Each case is the words and the input of one call. Its status, its output and its fault have to be those of the model in tools/fuzz,
-and nothing may be read after words that make no call or are no image. For speed, several inputs of `hart dump` without a fault are
+Each case is the words and the input of one call. Its status, its output and its fault have to be those of the model in tools/fuzz.
+If the words make no call, or the image is bad, the input must not be read. For speed, several inputs of `hart dump` without a fault are
 heard together in one call. First of all, the model and the program are tried on worked messages. A difference is printed with the
 smallest words and input that were found to show one. The cases of a seed are always the same. The last line is
 `N passed, M failed`, and the status is 1 after any difference.
@@ -39,7 +39,7 @@ MOST_ODD, LATER_PORTION, LONGEST_PORTIONED = 200, 512, 20_000
 
 
 class Call(NamedTuple):
-    """A call of the program: its name, how often it is tried among twenty, the maker of what it is given, and the model of it."""
+    """A call of the program: its name, its share of twenty cases, the maker of its words and input, and its model."""
 
     name: str
     share: int
@@ -73,7 +73,7 @@ class Shrinker:
         return self.fails(smaller)
 
     def dropped(self, parts, whole):
-        """The parts that are left when no run of them can be dropped, or no tries are left. `whole` makes an input of parts."""
+        """Drops runs of parts without which it still fails, long runs first, as long as tries are left. `whole` makes an input of parts."""
         size = len(parts)
         while size and self.tries:
             place = 0

@@ -1,4 +1,4 @@
-"""Holds include/hart.h against the source of hart_c: both have the same structs, fields, constants and calls, the header in C."""
+"""Compares include/hart.h with the source of hart_c: both have to have the same structs, fields, constants and calls."""
 
 import pathlib
 import re

@@ -92,7 +92,7 @@ class Room:
         self.folder, self.source, self.changed = folder, source, {}
 
     def put(self, crate, texts):
-        """Gives files of a crate these texts, by their paths in it, and all others their own. A file with the text None is taken away."""
+        """Restores what the last call changed, and writes these texts to files of a crate, by their paths in it. None removes a file."""
         for path in self.changed:
             shutil.copy2(f"{self.source}/{path}", f"{self.folder}/{path}")
         self.changed = {f"crates/{crate}/{file}": text for file, text in texts.items()}
@@ -112,7 +112,7 @@ class Room:
 
 
 def copy_crates(names, source, folder):
-    """Copies crates and what `rt` has kept of them, with the lines of crates.txt that these have."""
+    """Copies crates, those below them, what `rt` keeps of them in `out`, and their lines of crates.txt. Wrong bodies are not copied."""
     every = crates_in(text_of(f"{source}/crates.txt"))
     needed = dict.fromkeys(it for name in names for it in (*every[name].below, name))
     with open(f"{folder}/crates.txt", "w", encoding="utf-8") as it:

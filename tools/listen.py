@@ -6,8 +6,8 @@ each cut message at most 0.2 s after the silence behind it, each with a time of 
 with `hart explain --json`.
 
 The items begin with a silence, also after a stall and when hart-listen starts again at the same port; that port may refuse parity. RTS is
-cleared, and --silence sets how long a silence is. On a busy machine each of these may take longer by what the machine is late. What fails
-is tried again, five times at most.
+cleared, and --silence sets how long a silence is. On a busy machine each of these may take longer by the time that the machine is late. A
+check that fails is repeated: it is tried five times at most in all.
 
 Usage: tools/listen.py PROGRAM
 """
@@ -164,7 +164,7 @@ def items_of(line):
 
 
 def try_starts():
-    """Starts hart-listen twice at one port, where the second start finds all set but parity."""
+    """Starts hart-listen twice at one pseudo-terminal. At the second start only parity is left to set, which this terminal refuses."""
     port, terminal = os.openpty()
     tty.setraw(terminal)
     ended(started(terminal))

@@ -1,7 +1,8 @@
 #!/bin/sh
 # Compares the man page and the bash completion with the help of the program. Both must name each subcommand and each option that
 # `hart --help` and `hart SUBCOMMAND --help` name, and no other. The man page must name each option with its commands. Options are
-# compared by their long names. The man page of hart-listen must name the options of its help.
+# compared by their long names. The man page must have the version of the program. The man pages of hart-listen and hart-ask, and the
+# completion of hart-ask, must name the options of their help.
 #
 # Usage: tools/manual.sh [PROGRAM]; PROGRAM is the ./hart of the repository if absent.
 set -eu

@@ -4,12 +4,12 @@
 Usage: tools/mistakes.py [--definitions] [--gate | --all | --list] [CRATE | NAME ..]
        tools/mistakes.py --can-fail | --against-rattle
 
-It tries those that mistakes.lock lacks, or that may be refused otherwise by now, since something on which their refusal rests has changed,
-and writes them into mistakes.lock; those that are named it tries in any case. `--gate` tries some of the others too, chosen by the commit,
-and writes nothing. `--all` tries all, and `--list` only says which would be tried. `--definitions` does so with wrong definitions.
+It tries those without a valid line in mistakes.lock, and writes their lines. A line is valid until something changes on which the refusal
+rests. What is named is tried in any case. `--gate` also tries some of the others, chosen by the commit, and writes nothing. `--all` tries
+all, and `--list` only prints which would be tried. `--definitions` tries wrong definitions in place of wrong bodies.
 
-`--can-fail` shows that edits that are no wrong bodies make a run fail, and that each change on which a refusal rests has it tried again.
-`--against-rattle` makes changes at random, and shows that what the prover checks anew has another digest."""
+`--can-fail` shows that edits that are no wrong bodies make a run fail, and that a refusal is tried again after each change on which it
+rests. `--against-rattle` makes changes at random, and shows that each function that the prover checks again has another digest."""
 
 import argparse
 import resource
@@ -26,7 +26,7 @@ def is_asked(name, words):
 
 
 def chosen_of(ledger, asked, words):
-    """Those of what is asked for that a run tries."""
+    """Returns those of `asked` that a run tries: all, or those for which the ledger has no valid line and, at the gate, a sample."""
     if words.all or words.names:
         return asked
     said = {name: ledger.said[name] for name in asked if name in ledger.said}
@@ -37,7 +37,7 @@ def chosen_of(ledger, asked, words):
 
 
 def run(words, ledger, things, tried):
-    """Tries those of these that are asked for, tells each verdict, and writes the ledger. Returns whether one is not refused."""
+    """Tries what is asked for, prints each verdict, and writes the ledger, but not at the gate. Returns whether one is not refused."""
     for word in words.names:
         if not any(is_asked(name, [word]) for name in things):
             sys.exit(f"mistakes: no crate and no wrong body is named {word}")

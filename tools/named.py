@@ -1,9 +1,9 @@
 #!/usr/bin/env python3
-"""Says of each wrong body of must-fail/ which clause refuses it, by mistakes.lock. The contracts were written to refuse these, so it fails
-if one is not there, or if no clause refuses it.
+"""Prints which clause refuses each wrong body of must-fail/, as mistakes.lock says. The contracts were written to refuse these wrong
+bodies, so it fails if one is missing, or if no clause refuses it.
 
-A refusal at a written answer cannot be told from a proof that no longer fits. So a wrong body that is refused only there is tried without
-the answers of its function: a clause has to refuse it then, and the right body has to be proved."""
+A refusal at a written answer may only mean that the written proof no longer fits. So a wrong body that is refused only there is tried
+without the written answers of its function. A clause has to refuse it then, and without these answers the right body has to be proved."""
 
 import os
 import sys
@@ -31,7 +31,7 @@ NAMED = {
 
 
 def without_answers(edit, crate):
-    """What refuses a wrong body without the written answers of its function, or why nothing is told by that."""
+    """Tries a wrong body without the written answers of its function. Returns what refuses it, "" if nothing does, and why nothing does."""
     body = wrong_body(edit, crate)
     answers = {f"{it.proofs()}/Answers.antt": None for it in body.functions if f"{it.proofs()}/Answers.antt" in crate.raw}
     with copied([crate.name]) as room:

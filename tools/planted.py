@@ -1,7 +1,7 @@
 """Bugs of a device, each a change of a line of the plain model in tools/fuzz, and devices that have one of them.
 
-The model is loaded anew for each bug, from its source with the change. What it knows of the protocol it keeps, but for the bug.
-As a program this is a device with a bug, which answers line by line as `hart serve` does.
+The model is loaded anew for each bug, from its source with the change; all else stays as in the model.
+Run as a program, this is a device with a bug, which answers line by line as `hart serve` does.
 
 Usage: tools/planted.py BUG IMAGE; BUG is the number of a bug, 0 for none, and IMAGE the image with which the device begins, in hex.
 """
@@ -18,7 +18,7 @@ MODULES = ("frames", "commands", "device")
 
 
 class Bug(NamedTuple):
-    """A bug: its name, the module that has it, and the text that is changed there, which stands in the module once."""
+    """A bug: its name, its module, and the text `right`, which stands once in the module, and which becomes `wrong`."""
 
     name: str
     module: str

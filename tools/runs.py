@@ -84,8 +84,8 @@ class Runner:
             sys.exit(f"runs: {' '.join(call)}: not as it has to be, {note}")
 
     def check_row(self, call, row, after, portion):
-        """Runs a call on the input of a row, with `after` behind it. The last read is the one that finds the end, or that fails. At
-        another fault the reads are not counted."""
+        """Runs a call on the input of a row, behind which comes `after`: an end, or a read that fails. If the fault is another one, the
+        number of reads is not checked."""
         text, wanted, fault = row
         run = self.run(call, text, most_read=portion, after=after, most_written=1)
         size = len(bytes_of(text))

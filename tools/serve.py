@@ -3,7 +3,7 @@
 `hart master` with its plain model, as a process that lives through many lines.
 
 Each row of the vectors is heard by a process of its own, which begins with the image of the row and has to reply as the row says.
-Then one process hears all rows, with a restart and the image after each. Another one hears many deliveries, each after it has
+Then one process hears all rows, with a restart, the image and the counter after each. Another one hears many deliveries, each after it has
 answered the one before, and may not take more memory than after the first few; so does a master. Lines go by the bridge of hart-bench.
 
 Usage: tools/serve.py PROGRAM [--deliveries N]; N is 100000 if absent.

@@ -109,7 +109,7 @@ def hold(replies, wanted, what):
 
 
 def looked_at(image, parts, replies):
-    """What the parts of a case leave in the device: the requests that read it, and the replies that they must get."""
+    """Returns the requests that read all that a case leaves in the device, and the replies that they must get; none if it only reads."""
     if all(map(is_plain_read, parts, replies)):
         return [], []
     device = device_at(image)

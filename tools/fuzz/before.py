@@ -11,7 +11,8 @@ def is_to(reply, request):
 
 
 def leaves_open(reply, request):
-    """Whether a message is a reply after which the request is sent once more. With communication faults it has the command as heard."""
+    """Whether a message is a reply after which the request is sent again: busy, or communication faults. The latter may name any command,
+    since the device may have heard another one."""
     if reply.kind != "ACK" or reply.address != request.address:
         return False
     return has_communication_faults(reply.payload[0]) or (reply.command == request.command and reply.payload[0] == BUSY)

@@ -25,7 +25,7 @@ def explain_given(rng):
 
 
 def portions(rng):
-    """How many bytes a pipe gives at a time, over and over."""
+    """Returns the numbers of bytes that the reads of a pipe give in turn, over and over."""
     return tuple(rng.choice((1, 1, 2, 3, 4, 5, 7, 11, 64, 300)) for _ in range(rng.randint(1, 6)))
 
 

@@ -34,7 +34,7 @@ class Asker:
         self.request, self.sendings, self.state, self.time = None, 0, "idle", 0
 
     def submit(self, frame):
-        """Takes a request in hand, unless another one is."""
+        """Takes a request in hand and returns `ok`, or returns why it is refused."""
         if self.state != "idle":
             return PENDING
         polls = isinstance(frame.address, Polling) and frame.command != 0
@@ -44,7 +44,7 @@ class Asker:
         return b"ok\n"
 
     def send(self):
-        """The message that is due."""
+        """Returns the message that is due, and begins to wait for its reply; `-` if none is due."""
         if self.state != "due":
             return b"-\n"
         self.sendings, self.state, self.time = self.sendings + 1, "waiting", 0
@@ -60,7 +60,7 @@ class Asker:
         return frame.payload[0] < FAULTY
 
     def hear(self, heard):
-        """What a delivery brings: the reply, if it is the only frame."""
+        """Returns `answered` if the only frame of a delivery is the reply that is waited for, and otherwise `-`."""
         found = frames_of(heard)
         if self.state != "waiting" or len(found) != 1 or not self.accepts(found[0][2]):
             return b"-\n"
@@ -68,7 +68,7 @@ class Asker:
         return f"answered {self.sendings} {hex_or_dash(found[0][2].payload)}\n".encode()
 
     def tick(self, count):
-        """What becomes of the request when time passes."""
+        """Lets time pass. Returns `retry` or `noreply` when the limit is reached, and otherwise `-`."""
         if self.state != "waiting":
             return b"-\n"
         self.time = min(self.time + count, MOST_COUNT)

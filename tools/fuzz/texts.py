@@ -30,7 +30,7 @@ DECIMAL_DIGITS = re.compile(rb"[0-9]+")
 class Given(NamedTuple):
     """What a call is given: the words after its name, and the text that it may read. With None every read fails.
 
-    With portions the text comes through a pipe that gives so many bytes at a time, over and over.
+    With portions the text comes through a pipe. They are the numbers of bytes that its reads give in turn, over and over.
     """
 
     words: list
@@ -259,7 +259,7 @@ def is_plain(word):
 
 
 def split_words(words, option):
-    """The plain words of a call and the value of its one option, or None for it; None alone if the words make no call."""
+    """Returns a pair of the plain words of a call and the value of its option, None without it. Returns None if the words make no call."""
     rest, plain, values = list(words), [], []
     while rest and rest[0] != b"--":
         word = rest.pop(0)

@@ -92,7 +92,7 @@ AFTER_COMMAND = re.compile(r"Command (\d+)")
 
 
 def served_after():
-    """What is said by `hart serve` to the worked messages that come after something else: the page says after what."""
+    """Yields input and output of `hart serve` for each worked message that comes after another one, or after a word, as the page says."""
     page = PAGE.read_text(encoding="utf-8")
     first = {number: SHOWN.search(section) for number, _, section in SECTION.findall(page)}
     for after, request, reply, _ in SHOWN.findall(page):

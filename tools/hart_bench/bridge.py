@@ -40,7 +40,7 @@ LISTENER = load_listener()
 
 
 def replies(say, parts):
-    """The replies of a device to the parts of a row; `say` gives its answer to a line."""
+    """Returns the replies of a device to the parts of a row, `-` for a restart that it confirms. `say` gives its answer to a line."""
     return [SILENCE if heard == RESTART and answer == OK else answer for heard, answer in ((heard, say(heard)) for heard in parts)]
 
 
@@ -134,7 +134,7 @@ class Port:
             raise Gone(f"the port is gone: {error.strerror}") from None
 
     def hear(self, patience):
-        """Returns what comes between two silences, as a line of items; "" if nothing comes for so many seconds."""
+        """Returns what comes up to a silence, as a line of items; "" if nothing comes for `patience` seconds."""
         items, wait = [], patience
         while heard := LISTENER.received(self.port, wait):
             self.ended = now()

@@ -34,7 +34,7 @@ def spaced(line):
 
 
 class Yardstick:
-    """What is compared of replies. It counts the replies of which only a part is compared."""
+    """Compares replies with those of `hart serve`. `left_out` counts the replies that were accepted though only a part was compared."""
 
     def __init__(self, identity=None, has_other_values=False):
         self.identity, self.has_other_values = identity, has_other_values

@@ -56,7 +56,7 @@ def progress_line():
 
 
 def identity_of(given):
-    """The bytes of an identity; ends the run if they are none."""
+    """Returns the bytes of an identity, None if none is given; ends the run if it is not one."""
     try:
         identity = None if given is None else bytes.fromhex(given)
     except ValueError:

@@ -28,7 +28,7 @@ class Chances(NamedTuple):
             yield self.word(rng)
 
     def word(self, rng):
-        """A fault: at most one a sending, tried in the order of the words."""
+        """Returns the fault of a sending: the first of WORDS that chance picks, or NONE."""
         for word in WORDS[1:]:
             kind, _, leg = word.partition("-")
             if (not leg or leg in self.legs) and rng.random() * 100 < self.percent.get(kind, 0):
@@ -49,7 +49,7 @@ def first_place(items):
 
 
 def damaged(rng, kind, line, has_marks):
-    """A message as it arrives; "" if nothing does. A flipped bit is marked as a parity fault where marks are heard."""
+    """Returns a message as it arrives, "" if nothing does. With `has_marks`, a character with a flipped bit has a parity fault."""
     items = line.split()
     start = first_place(items)
     if kind == LOSE or not items:

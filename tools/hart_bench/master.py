@@ -41,7 +41,7 @@ def add_words(parser):
     parser.add_argument("--retries", metavar="N", type=int, default=RETRIES, help="how often the master may send again; 3 if absent")
     parser.add_argument("--limit", metavar="MS", type=float, default=LIMIT, help="how long it has to wait for a reply; 305 if absent")
     parser.add_argument("--gap", metavar="MS", type=float, default=GAP * 1000, help="so long a silence ends a message; 50 if absent")
-    parser.add_argument("--seconds", metavar="N", type=float, help="end after so many seconds, if not ended by Control-C or by the port before")
+    parser.add_argument("--seconds", metavar="N", type=float, help="end after so many seconds, if not ended by Control-C or the port")
     parser.add_argument("--hart", metavar="PROGRAM", help="the program hart; the one beside this program if absent")
 
 
@@ -63,7 +63,7 @@ class Bench:
         self.port, self.serve, self.words, self.rng, self.delay, self.watch = port, serve, words, rng, delay, watch
 
     def hear(self, patience):
-        """Waits so long for a message of a master, and does with it what the next fault says. Returns whether anything came."""
+        """Waits `patience` seconds for a message of a master, and replies to it with the next fault. Returns whether anything came."""
         heard = self.port.hear(patience)
         if not heard:
             return False

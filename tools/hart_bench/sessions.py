@@ -25,7 +25,7 @@ def weighted(rng, *choices):
 
 
 class Maker:
-    """Makes the lines of a session for a device that begins with an image. It follows roughly what the device holds."""
+    """Makes the lines of a session for a device that begins with an image. It knows roughly what the device holds at each line."""
 
     def __init__(self, rng, image):
         self.rng = rng
@@ -63,7 +63,7 @@ class Maker:
         return self.ask(command, data)
 
     def write(self):
-        """A write, as a rule a good one, and sometimes one byte short, too long, or sent again by the other master."""
+        """Returns a write: as a rule a good one, at times one byte short, too long or empty. Either master may send it again later."""
         rng = self.rng
         command = rng.choice(list(WRITES))
         data = self.good_data(command)
@@ -90,7 +90,7 @@ class Maker:
         return rng.choice((*LONG_TAGS, rng.randbytes(32)))
 
     def follow(self, command, data):
-        """Follows a write that is probably carried out."""
+        """Notes what a write changes in the device, unless the device refuses it."""
         if self.is_protected or len(data) < WRITES[command]:
             return
         if command == 6:
@@ -106,7 +106,7 @@ class Maker:
         self.counter = (self.counter + 1) % 0x10000
 
     def reset(self):
-        """Command 38, without a counter, with the right one as a rule, or with one byte."""
+        """Returns Command 38: as a rule without a counter or with the right one, at times with a wrong one, a byte of it, or too much."""
         right = self.counter.to_bytes(2, "big")
         data = weighted(self.rng, (4, b""), (4, right), (1, right[:1]), (1, right + b"\x55"), (1, (self.counter ^ 1).to_bytes(2, "big")),
                         (1, self.rng.randbytes(2)))
@@ -137,7 +137,7 @@ class Maker:
         return self.ask(self.rng.choice(UNKNOWN), self.rng.randbytes(self.rng.choice((0, 0, 3))))
 
     def damaged(self):
-        """A request that is damaged: bits are changed, characters have fault bits, or its end is missing. A read of its master follows."""
+        """Returns a request, mostly a damaged one: with a changed bit, with fault bits, or without its last character. A read follows."""
         rng, master = self.rng, self.master()
         command = rng.choice((*WRITES, RESET, 0, 33))
         data = self.good_data(command) if command in WRITES else b""
@@ -150,7 +150,8 @@ class Maker:
         return " ".join(items[:-1] if rng.random() < 0.1 else items)
 
     def odd(self):
-        """What is no lone request: two messages, a reply, expansion bytes, one preamble byte, noise or nothing; or a request in noise."""
+        """Returns a delivery that is no lone request: two requests, a reply, expansion bytes, one preamble byte, noise or nothing; or a
+        request in noise."""
         rng = self.rng
         command = rng.choice(list(WRITES))
         asked = self.ask(command, self.good_data(command), preambles=PREAMBLES)
@@ -174,7 +175,7 @@ class Maker:
 
 
 def session(rng, image, count, can_say):
-    """The lines of a session of so many lines that a device can be told."""
+    """Returns the first `count` lines of a session that the device can be told."""
     maker, lines = Maker(rng, image), []
     while len(lines) < count:
         line = maker.line()

@@ -72,7 +72,7 @@ class Tested:
         return device, image if image == self.image else self.written(device, image)
 
     def written(self, device, image):
-        """Writes an image into a device by requests, all but its counter. Returns the image that it then has."""
+        """Writes an image into a device by requests, except its counter and, at a port, its write protection. Returns the image then."""
         wanted = upgraded(bytes.fromhex(hex_of(image)))
         is_protected = bool(wanted[-1] & PROTECTED) and self.port is None
         lines = [self.yardstick.to_device(line) for line in (*writes_of(wanted), request(0))]
@@ -108,7 +108,9 @@ class Reference:
 
 
 def answers(tested, image, lines):
-    """The answers of a device under test to lines, and the image with which it began. An answer is missing where it broke off."""
+    """Returns the answers of a device under test to lines, and the image with which it began.
+
+    If a command breaks off, it is run once more, line by line. The answers then end with the reason, at the line where it broke off."""
     device, begun = tested.start(image)
     came = []
     try:

@@ -65,7 +65,7 @@ class Trial:
                 self.codes[name, replied[0].frame.payload[0]] += 1
 
     def heard(self, where, image, lines, wanted=None):
-        """Lets the device hear lines, and counts them. Returns the first difference."""
+        """Lets the device hear lines, and counts them. Returns the first difference from `wanted`, or else from the reference, or None."""
         came, begun = answers(self.tested, image, lines)
         self.note(lines, came)
         expected = wanted if wanted is not None and begun == image else self.reference.answers(begun, lines)
@@ -77,7 +77,7 @@ class Trial:
         return self.first_difference(found.where, begun, lines, self.reference.answers(begun, lines), came)
 
     def first_difference(self, where, begun, lines, expected, came):
-        """The first difference between answers, up to which the lines are kept; None without one."""
+        """Returns the first difference between answers, with the lines up to it; None without one."""
         for place, line in enumerate(lines):
             shown = came[place] if place < len(came) else "nothing"
             if not self.tested.yardstick.agrees(expected[place], shown):
@@ -114,7 +114,7 @@ class Trial:
         return ""
 
     def sessions(self, seed, deliveries):
-        """Lets the device hear random sessions with so many deliveries in all. Returns the first difference."""
+        """Lets the device hear random sessions with `deliveries` deliveries in all. Returns the first difference, or None."""
         number, end = 0, self.count + deliveries
         while self.count < end:
             number += 1
@@ -141,7 +141,7 @@ class Trial:
         return found
 
     def without_runs(self, found, size):
-        """A difference without each run of so many lines that can be left out."""
+        """Returns the difference without any run of `size` lines that it does not need."""
         place = 0
         while place < len(found.lines) and self.tries > 0:
             self.tries -= 1

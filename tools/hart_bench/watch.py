@@ -25,7 +25,7 @@ class Asked:
 
 
 class Watch:
-    """Watches the masters at a line, which may send a request again so many times, after a limit in seconds without a reply."""
+    """Watches the masters at a line. They may send a request again `retries` times, each after `limit` seconds without a reply."""
 
     def __init__(self, retries, limit, tell):
         self.most, self.limit, self.tell = 1 + retries, limit, tell
@@ -42,7 +42,7 @@ class Watch:
             self.broken.append((rule, f"{self.tell()} Command {asked.frame.command}: {detail}"))
 
     def sent(self, frame, began, ended):
-        """A master has sent a request, which began and ended at these times."""
+        """Notes a request of a master, which began and ended at these times, as a new one or as one that is sent again."""
         last = self.in_hand.get(frame.master)
         self.sendings[frame.command] += 1
         if last is None or last.is_answered:
@@ -63,25 +63,25 @@ class Watch:
             self.take(frame, ended)
 
     def take(self, frame, ended):
-        """A request is new."""
+        """Notes a new request."""
         self.requests[frame.command] += 1
         self.in_hand[frame.master] = Asked(frame, ended)
 
     def again(self, asked, ended):
-        """A request is sent again."""
+        """Notes that a request is sent again."""
         self.retries[asked.fault] += 1
         asked.sendings, asked.ended, asked.was_replied = asked.sendings + 1, ended, False
         if asked.sendings > self.most:
             self.breaks(asked, "too often", f"more than {self.most} sendings")
 
     def drop(self, asked):
-        """A request is given up."""
+        """Notes that a request is given up."""
         self.given_up[asked.frame.command] += 1
         if asked.sendings < self.most:
             self.breaks(asked, "given up", f"given up after {asked.sendings} of {self.most} sendings")
 
     def answer(self, master, fault, was_replied, is_good):
-        """What a master got for its sending: the fault, whether anything came back, and whether it had to accept it."""
+        """Notes what came of a sending: the fault, whether anything came back, and whether the master had to accept it."""
         asked = self.in_hand[master]
         self.faults[fault] += fault != NONE
         asked.fault = fault if fault != NONE or is_good else REFUSED if was_replied else SILENT

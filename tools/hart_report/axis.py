@@ -39,7 +39,8 @@ def seconds_of(word):
 class Axis:
     """The place and the date of the line that was read last.
 
-    Places go on where a second capture begins at 0 again. A time of day that jumps back by more than half a day is one of the next day.
+    A line that starts before the line above it begins another capture, whose places go on from the end of the one before. A time of day
+    that jumps back by more than half a day is one of the next day.
     """
 
     def __init__(self):

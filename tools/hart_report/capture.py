@@ -89,7 +89,7 @@ class Capture:
         return pending.sendings
 
     def give_up(self, pending):
-        """Counts a request that was not answered. By now its polling address may be known as a device's."""
+        """Counts a request that was not answered. Its station is looked up again: its polling address may now be known as a device's."""
         if pending.is_busy:
             return
         station = self.stations.station(pending.request["address"])

@@ -13,7 +13,7 @@ CROSS = "M-5,-5L5,5M-5,5L5,-5"
 
 
 def percent(value):
-    """Returns a place of the chart."""
+    """Returns a position in the chart, given in percent, as a length of SVG."""
     return f"{value:g}%"
 
 

@@ -39,7 +39,7 @@ class Pending:
         return BUSY if self.is_busy else FAULTS if self.has_faults else DAMAGED if self.miss else NO_REPLY
 
     def repeat(self):
-        """Counts one more sending. An answer by which the device was busy does not count any more."""
+        """Counts one more sending. If the last answer was busy, that answer is no longer counted."""
         if self.is_busy:
             self.command.answered -= 1
             self.command.at_first -= self.sendings == 1

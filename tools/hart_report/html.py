@@ -51,7 +51,7 @@ def table(label, heads, rows):
 
 
 def bar(parts, whole):
-    """Returns a bar whose parts are pairs of a class and a count, as wide as `whole` together if they reach it."""
+    """Returns a bar of parts, which are pairs of a class and a count. A count of `whole` takes the full width."""
     pieces, left = [], 0.0
     for name, count in parts:
         width = 100 * count / whole

@@ -1,7 +1,7 @@
-"""What the objects of `hart explain --json` have to have.
+"""Checks that objects have the members and values that `hart explain --json` writes.
 
-A check of each line would take as long as reading it. So what is only counted is checked where it is used for the first time, and lines of
-which more is shown are checked whole: misses, writes, what a device says of itself, and the last lines.
+A check of each line would take as long as reading it. So only some lines are checked as a whole: misses, messages of commands of which
+values are shown, and the last lines. In other lines a value is checked only where it is used for the first time.
 """
 import re
 
@@ -45,7 +45,7 @@ def check_members(one, members):
 
 
 def check_header(one):
-    """Refuses names of kind, master and address, and a command, that there are not. The members are there."""
+    """Refuses an object whose kind, master, address or command has a value that does not exist. All four members have to be there."""
     if one["kind"] not in KINDS:
         raise Unlike('the member "kind" is neither "request" nor "reply"')
     if one["master"] not in MASTERS:
@@ -83,7 +83,7 @@ def check_value(name, value):
 
 
 def check_reply(one):
-    """Refuses what the status bytes of a reply cannot say."""
+    """Refuses a reply whose response code, device status and communication faults cannot stand together."""
     has_faults = one["communication_faults"] is not None
     if not all(type(name) is str for name in (one["device_status"] or one["communication_faults"] or ())):
         raise Unlike("a name of a status bit is no text")

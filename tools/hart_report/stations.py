@@ -26,11 +26,11 @@ class Station:
 
     @property
     def restarts(self):
-        """At least how often the device was restarted. After a restart each master is shown one cold start."""
+        """The least number of restarts of the device. After a restart it reports one cold start to each master that asks."""
         return max(self.cold_starts.values(), default=0)
 
     def absorb(self, other):
-        """Takes over the counts of a polling address, of which it now is known whose it is."""
+        """Takes over the counts and facts of a polling address that has turned out to be this device's."""
         for name in ("requests", "replies", "answered", "cold_starts", "states", "faults"):
             getattr(self, name).update(getattr(other, name))
         self.unanswered += other.unanswered
@@ -144,7 +144,7 @@ class Stations:
             station.absorb(before)
 
     def of_no_pair(self):
-        """Returns how many messages there were of a master and an address of which no reply ever answered a request, by address."""
+        """Returns, by address, how many messages there were between it and a master, if no request of this master to it was answered."""
         counts = Counter()
         for station in [*self.by_address.values(), self.others]:
             for master in MASTERS:

@@ -33,7 +33,7 @@ def listed(parts):
 
 
 def of_station(station):
-    """Yields what stands out of a device."""
+    """Yields the findings about a device."""
     name = station_name(station)
     if station.restarts:
         yield Finding("warn", f"{name} was restarted {counted(station.restarts, 'time')}.")
@@ -48,7 +48,7 @@ def of_station(station):
 
 
 def each_of(stations, count):
-    """Returns the names of the stations with the most of something, each with its count, or "" if none has any."""
+    """Returns the names of at most MOST_NAMED stations with the highest counts, each with its count; "" if all counts are 0."""
     counts = [(count(station), tag_of(station) or address_words(station.address)) for station in stations]
     found = sorted((pair for pair in counts if pair[0]), key=lambda pair: (-pair[0], pair[1]))
     names = [f"{name} ({number:,})" for number, name in found[:MOST_NAMED]]
@@ -56,7 +56,7 @@ def each_of(stations, count):
 
 
 def of_stations(stations):
-    """Yields what stands out of all devices together."""
+    """Yields the findings about all devices together."""
     if names := each_of(stations, lambda station: station.unanswered):
         total = sum(station.unanswered for station in stations)
         yield Finding("bad", f"Devices left {counted(total, 'request')} unanswered: {names}.")
@@ -66,7 +66,7 @@ def of_stations(stations):
 
 
 def of_addresses(capture):
-    """Yields what stands out of addresses at which nobody or more than one answers."""
+    """Yields the findings about addresses at which nobody, or more than one device, answered."""
     stations = capture.stations
     lone = [station for station in stations.by_address.values() if not station.answered and station.requests]
     pollings = sorted(int(station.address[1:]) for station in lone if station.address.startswith("@"))
@@ -84,7 +84,7 @@ def of_addresses(capture):
 
 
 def of_requests(capture):
-    """Yields what stands out of the requests."""
+    """Yields the findings about requests and replies."""
     exchanges = capture.exchanges
     requests, sendings = exchanges.total("requests"), exchanges.total("sendings")
     repeats = sendings - requests
@@ -101,7 +101,7 @@ def of_requests(capture):
 
 
 def of_writes(writes):
-    """Yields what stands out of the configuration writes."""
+    """Yields the findings about configuration writes."""
     if writes.count:
         masters = " and ".join(f"{count:,} by the {name} master" for name, count in writes.by_master.items() if count)
         yield Finding("info", f"The configuration was to be written {counted(writes.count, 'time')}: {masters}.")
@@ -115,7 +115,7 @@ def of_writes(writes):
 
 
 def of_misses(capture):
-    """Yields what stands out of what could not be read."""
+    """Yields the findings about misses, and about values without a trend."""
     total = capture.misses.total.total()
     if burst := capture.misses.total["burst"]:
         yield Finding("info", f"{counted(burst, 'burst message was', 'burst messages were')} heard, which hart does not read.")
@@ -130,7 +130,7 @@ def of_misses(capture):
 
 
 def of_input(capture):
-    """Yields what stands out of the lines that were read."""
+    """Yields the findings about the input: faults, a cut line, no messages, several captures."""
     if capture.fault:
         yield Finding("bad", f"The input of hart explain ended with a fault: {capture.fault}.")
     if capture.cut_line:

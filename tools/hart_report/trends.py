@@ -19,7 +19,7 @@ QUANTITIES = ("primary variable", "percent of range", "loop current")
 
 
 class Point(NamedTuple):
-    """One value, or several in a row of which the lowest, the highest and the last are kept; the place and the date are of the last."""
+    """One value, or the last, the lowest and the highest of several in a row, with the place and the date of the last."""
 
     place: int
     seconds: float

@@ -23,8 +23,8 @@ def texts_of(edits, crate):
 
 
 def batches_of(bodies, crate):
-    """Puts wrong bodies into batches, those first whose functions are changed most often. In a batch no function is changed twice, and what
-    changes more than bodies stands alone. One may call the other, since a proof rests on the contracts of what is called."""
+    """Puts wrong bodies into batches, those first whose functions are changed most often. A batch changes no function twice, and what
+    `is_alone` has a batch of its own. Functions of a batch may call each other: a proof rests on the contracts of what is called."""
     def takes(batch, texts, body):
         if len(batch) == MOST or batch and body.is_alone() or any(it.is_alone() or it.paths() & body.paths() for it in batch):
             return False
@@ -57,10 +57,10 @@ def judged_in_turn(base, crate, batches):
 
 
 def tasks_of(tree, base, of_crates):
-    """Builds the libraries below each crate in the base, and yields the tasks of its wrong bodies. The largest crates begin.
+    """Builds the libraries below each crate in the base, and yields tasks that try its wrong bodies. The highest crates come first.
 
-    If something is kept of a crate, each batch is a task of its own: after another batch it would have to prove again what that one
-    changed. If nothing is kept, the first batch proves it for those after it."""
+    If the folder `out` of a crate keeps its proofs, each batch is a task with a copy of its own. In the copy of another batch it would
+    have to prove again what that one changed. Without `out`, all batches are one task, whose first batch makes these proofs."""
     for name in [it for it in reversed(tree.crates) if it in of_crates]:
         with COPYING:
             said = base.check(name, [""]).rstrip()

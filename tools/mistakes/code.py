@@ -16,7 +16,7 @@ COMMENT = re.compile(r'//[^\n]*|/\*.*?\*/|("(?:\\.|[^"\\])*"|b?\'(?:\\.|[^\'\\\n
 
 
 class Function(NamedTuple):
-    """A function with a body: its path below the crate, its file, the lines on which it, its contract and its body start, and its last."""
+    """A function with a body: its path below the crate, its file, and the lines, counted from 0, of its start, contract, body and end."""
 
     path: str
     file: str
@@ -31,7 +31,7 @@ class Function(NamedTuple):
 
 
 class Item(NamedTuple):
-    """A part of the code as others see it: the name by which it is called, of a method also its type, of an impl its trait."""
+    """An item of code as callers see it. An impl has no name. `of` is the type of a method or an impl, and `trait` the trait of an impl."""
 
     crate: str
     file: str
@@ -45,7 +45,7 @@ class Item(NamedTuple):
 
 
 def module_of(file):
-    """The path of the module that a file below src/ is, "" for the crate's root."""
+    """Returns the path of the module of a file below src/, "" for the crate's root."""
     inside = file.removeprefix("src/").removesuffix(".rt")
     return "" if inside in ("lib", "main") else inside.replace("/", "::")
 
@@ -55,26 +55,26 @@ def joined(*parts):
 
 
 def bare(type_text):
-    """The name of a type without its path, its parameters and what stands before it."""
+    """Returns the name of a type without `&`, its path and its type arguments."""
     return re.sub(r"<.*", "", type_text.strip().lstrip("&")).rsplit("::", 1)[-1].strip()
 
 
 def parts_of_impl(head):
-    """The parameters, the trait if there is one, and the type of what stands after the word `impl`."""
+    """Returns the parameters, the trait ("" if there is none) and the type of an impl. `head` is what follows the word `impl`."""
     parameters, rest = re.fullmatch(r"\s*(?:<((?:[^<>]|<[^<>]*>)*)>)?(.*)", head).groups("")
     trait, _, of = rest.partition(" where ")[0].strip(" {}").rpartition(" for ")
     return re.findall(r"\w+", parameters), trait, of
 
 
 def with_given(text, free):
-    """The name of a type or a trait, and of the types that it is given but for those that are free."""
+    """Returns the name of a type or a trait, followed by the names of its type arguments, except the parameters in `free`."""
     given = re.findall(r"(?<!')\b[A-Z]\w*", text.partition("<")[2])
     return "".join([bare(text), *(it for it in given if it not in free)])
 
 
 def owner_of(block, module, types):
-    """The path under which the prover names the functions of an `impl` or a trait: those of a type where the type is declared, those of a
-    trait that a type has by type and trait, each with what it is given that is no parameter of the block."""
+    """Returns the path under which the prover names the functions of an `impl` or a trait: of a type, the module that declares it and the
+    type; of a trait of a type, the type and the trait, each followed by its type arguments that are no parameters of the block."""
     kind, head = block.groups()
     if kind == "trait":
         return joined(module, re.match(r" (\w+)", head)[1])
@@ -86,8 +86,8 @@ def owner_of(block, module, types):
 
 
 def parts_of(lines, first, indent):
-    """The first lines of contract and body of the function that starts on a line, and the line on which it ends; None if it has no body. A
-    body that comes after a contract starts on a line of its own, and every line of the contract stands further in."""
+    """Returns the first lines of contract and body, and the last line, of the function that starts on line `first`, counted from 0; None if
+    it has no body on lines of its own. After a contract the body begins with a line `{`, and the contract is indented further."""
     contract = None
     for number, line in enumerate(lines[first:], first):
         if not contract and re.match(r" *(requires|ensures|ghost)\b", line):
@@ -103,7 +103,7 @@ def parts_of(lines, first, indent):
 
 
 def functions_in(file, text, types):
-    """The functions of a file that have bodies of more than one line. `types` has the modules that declare types of these names."""
+    """Returns the functions of a file, except those on one line. `types` has the modules that declare a type, by its name."""
     lines, module, found = text.split("\n"), module_of(file), []
     owner = module
     for number, line in enumerate(lines):
@@ -126,7 +126,7 @@ def packed(lines):
 
 
 def blocks_of(text, indent=""):
-    """The items that stand at this indent, each with the attributes above it. What begins no item belongs to the one before."""
+    """Returns the items at this indent, each with the attributes above it. A block that begins no item is joined to the one before it."""
     found = []
     for block in re.findall(rf"((?:.*\n)*?(?:#!.*|{indent}(?![ #]).*(?:=\n(?:.*\n)*?.*;|[;}}])|.+\Z))(?:\n|$)", text):
         is_item = START.match(HEAD.search(block)[1])
@@ -135,7 +135,7 @@ def blocks_of(text, indent=""):
 
 
 def items_of_impl(crate, file, block):
-    """An impl of a trait as it is; of a type, the impl without its functions, and the statement of each function."""
+    """Returns the items of an impl: one for an impl of a trait; for an impl of a type, one for each function and one for the rest."""
     opening, brace, inside = block.partition("{\n")
     head = " ".join(it.strip() for it in opening.split("\n") if not it.startswith("#"))
     _, trait, of = parts_of_impl(head.removeprefix("impl"))
@@ -147,7 +147,7 @@ def items_of_impl(crate, file, block):
 
 
 def items_in(crate, file, text, functions):
-    """The items of a text without comments as others see them: functions without their bodies. An impl has no name."""
+    """Returns the items of a text without comments as callers see them: functions without their bodies. An impl has no name."""
     lines, found = text.split("\n"), []
     for it in functions:
         lines[it.body : it.last] = [""] * (it.last - it.body)

@@ -20,13 +20,13 @@ HEAD = re.compile(r"^(?:(?:abbrev|unfoldable|opaque) )*pub (?:record |data )?(?!
 SHAPE = re.compile(r"(?:pub data \w+|pub record \w+(?: \(\w+ : Type \d\))*|abbrev pub \w+) : Type \d")
 # What a file says of definitions that no public contract names. In its first line it speaks of all its definitions.
 PRIVATE = re.compile(r"^--.*\bOnly private calls use (these definitions|the definitions from here on|the next definition)\b", re.M)
-# At how many places a variant is tried at once and in all, first and then, and how many functions of a crate above try one.
+# For each stage, at how many places a variant is tried in one check, and in all. Then at how many places of a crate above it is tried.
 STAGES, MANY = ((2, 4), (8, 40)), 12
 PROVED = "its crate is still proved"
 
 
 class Variant(NamedTuple):
-    """A variant's name, the definition's crate, file, module with its own name, and text, and the text in it that the variant replaces."""
+    """A variant: its name; the crate, file, (module, name) and text of the definition; the text that it replaces there, and the new one."""
 
     name: str
     crate: str
@@ -49,8 +49,8 @@ def private_in(text):
 
 
 def definitions_of(crate):
-    """The definitions of a crate, without shapes and those of private rooms, and whether a reader believes each. The key of one is the name
-    of its file and its own, and before them the name of the folder if two would have the same."""
+    """Returns the definitions of a crate, except shapes and those in a folder private/, each with whether a reader believes it. The key is
+    FILE.NAME, or FOLDER/FILE.NAME if two would have the same."""
     found = []
     for module, file in sorted(crate.files.items()):
         if not file.startswith("specs/") or "/private/" in file:
@@ -97,8 +97,8 @@ def variants(tree, table):
 
 
 class Trial:
-    """The variants of a crate that are left, the places of this crate or of one above that can refuse them, with the variants on which
-    each rests, and the function with which each is checked. A lemma is checked with a function whose proof reads its file."""
+    """The variants that are left, and the places of the crate `name`, theirs or one above, that can refuse them: functions and lemmas.
+    `cones` has the variants on which each rests, `checked` the function to check: itself, or for a lemma one whose proof reads its file."""
 
     def __init__(self, tree, base, name, variants):
         self.tree, self.base, self.crate, self.left, self.tried = tree, base, tree.crate(name), dict(variants), Counter()
@@ -126,7 +126,7 @@ class Trial:
         return {name: [it for it in fit if self.cones[it] & found.keys() == {name}][:few] for name, fit in found.items()}
 
     def planned(self, few, most):
-        """What is planted in turn, so that each variant that was tried at fewer places is tried at a few, with most at once first."""
+        """Returns groups of variants to plant together, largest first. Variants tried at fewer than `most` places get up to `few` more."""
         names, found = {it for it in self.left if self.tried[it] < most}, []
         while chosen := self.chosen(names, few):
             found.append(chosen)
@@ -134,8 +134,8 @@ class Trial:
         return sorted(found, key=len, reverse=True)
 
     def judged(self, chosen):
-        """Plants variants at once, and checks their places, or the whole crate. Yields each that places refuse which rest on no other, and
-        each that is not read, with why."""
+        """Plants variants together, and checks their places, or the whole crate if there are none. Yields the name of each variant that is
+        decided, the places that refuse it and rest on no other planted one, and why there are none. It is then no longer left."""
         names, functions = list(chosen), sorted({self.checked[it] for fit in chosen.values() for it in fit})
         plain = self.tree.crate(self.left[names[0]].crate).plain
         texts = {self.left[it].file: plain[self.left[it].file] for it in names}

@@ -25,7 +25,7 @@ class Change(NamedTuple):
 
 
 class Edit(NamedTuple):
-    """The edit that makes a wrong body: its own name, the crate, the function it says refuses it, and its changes."""
+    """The edit that makes a wrong body: its own name, its crate, the function in its line `refused-at:`, if any, and its changes."""
 
     own: str
     crate: str
@@ -39,7 +39,7 @@ class Edit(NamedTuple):
 
 
 class WrongBody(NamedTuple):
-    """A wrong body with the functions that it changes. It stands alone if it changes more: `outside` has these lines and their files."""
+    """A wrong body, the functions that have to refuse it, and the lines that it changes outside of functions, each with its file."""
 
     edit: Edit
     functions: tuple
@@ -53,8 +53,8 @@ class WrongBody(NamedTuple):
 
 
 def stanzas(text):
-    """The lines of a text that have a colon, as what stands before and behind it: those before the first line `name:`, and those from each
-    such line on."""
+    """Returns the lines of a text that have a colon, as pairs of the words before and after it, in lists: one list for the lines before the
+    first line `name:`, and one for each such line and the lines after it."""
     found = [[]]
     for word, rest in re.findall(r"^([^:\n]*): ?(.*)$", text, re.M):
         if word == "name":
@@ -64,8 +64,8 @@ def stanzas(text):
 
 
 def edit_of(lines, crate, file="", own=""):
-    """The edit of a stanza. A line `file:` names another file, and a line `refused-at:` the function whose goal fails if no body of a
-    function is changed."""
+    """Returns the edit of a stanza. A line `file:` names the file of the changes after it. A line `refused-at:` names the function that
+    refuses the edit, in place of the functions whose bodies it changes."""
     words, old, changes = {"name": own, "refused-at": "", **dict(lines)}, "", []
     for word, rest in lines:
         if word == "file":
@@ -99,7 +99,7 @@ def every_edit(tree):
 
 
 def replaced(text, change):
-    """A text with a change in it, and the line on which it begins."""
+    """Returns a text with a change made in it, and the line on which the change begins, counted from 0."""
     exact = re.escape(change.old)
     for form in (exact, f"^{exact}$") if change.old else ():
         places = [it.start() for it in re.finditer(form, text, re.M)]
@@ -110,12 +110,12 @@ def replaced(text, change):
 
 
 def apply(edit, crate, texts):
-    """Applies all changes of an edit to these texts of files of a crate, or none. Gives the files and lines changed, and the texts then."""
+    """Applies all changes of an edit to `texts`, or none. Returns for each its file, its line, and the text of the file before it."""
     changed, places = dict(texts), []
     if all(it.old == it.new for it in edit.changes):
         raise BadEdit("it changes nothing")
     for change in edit.changes:
-        # What says where it is refused may change a definition with the code, so that a law refuses both.
+        # An edit with a line `refused-at:` may also change a definition. A law then refuses the definition and the code together.
         if change.file not in (crate.raw if edit.refused_at else crate.by_file):
             raise BadEdit(f"there is no file {change.file} of code")
         text = changed.get(change.file, crate.raw[change.file])
@@ -126,7 +126,7 @@ def apply(edit, crate, texts):
 
 
 def wrong_body(edit, crate):
-    """Finds the functions whose bodies an edit changes, in a crate's texts as they stand."""
+    """Finds the functions that have to refuse an edit: those whose bodies it changes, or the one that its line `refused-at:` names."""
     found, outside = {}, []
     for file, line, text in apply(edit, crate, {}):
         functions, changed = functions_in(file, text, crate.types) if file in crate.by_file else [], text.split("\n")[line]

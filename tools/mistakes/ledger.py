@@ -45,7 +45,7 @@ class Ledger:
         return Rests(self.tree, crate)
 
     def digest(self, thing, where=""):
-        """The digest of a wrong body, or of a wrong definition that the first of these places refuses; "" if there is none."""
+        """Returns the digest of a wrong body, or of a wrong definition refused at the first place of `where`; "" if one of them is gone."""
         place = where.partition(", ")[0]
         crate, _, inside = place.partition("::")
         is_above = crate in self.tree.crates
@@ -84,6 +84,6 @@ def commit():
 
 
 def sample(names, each, seed):
-    """One name in each so many, chosen by a seed: those of as few crates as hold them, since each crate has to be read."""
+    """Returns one in `each` of the names, chosen by a seed, from as few crates as possible, since the prover has to read each crate."""
     order = sorted(names, key=lambda it: (sum_of(seed, it.partition("/")[0]), sum_of(seed, it)))
     return set(order[: -(-len(order) // each)])

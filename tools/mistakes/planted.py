@@ -63,7 +63,7 @@ def verdicts_on_definitions(planted, tree):
 
 
 def wrong_verdicts(tree):
-    """What is said of each planted edit and each planted definition on which the verdict is not the wanted one."""
+    """Yields a complaint about each planted edit and each planted definition whose verdict is not the wanted one."""
     edits, wrong = planted_with("wanted", "definition"), planted_with("definition")
     left = {**edits, **wrong}
     for name, verdict in itertools.chain(verdicts_on_edits(edits, tree), verdicts_on_definitions(wrong, tree)):
@@ -75,7 +75,7 @@ def wrong_verdicts(tree):
 
 
 def wrong_after_changes(tree, things):
-    """What is said of each change after which the ledger still answers for what rests on it, or no more for what does not."""
+    """Yields a complaint for each planted change: the digests in its lines `again:` have to differ, those in `known:` must not."""
     for what, lines in planted_with("old", "wanted").items():
         words, names = dict(lines), [rest for word, rest in lines if word in ("again", "known")]
         change, wanted = Change(words["file"], words["old"], words["new"]), {rest for word, rest in lines if word == "again"}
@@ -89,8 +89,8 @@ def wrong_after_changes(tree, things):
 
 
 def wrong_answers(tree, edits):
-    """What is said of each way in which a ledger answers for another wrong body, for another edit, or not as it should for another kit, and
-    in which a run would not fail by a definition without a variant."""
+    """Returns a complaint for each of these that fails: another wrong body, or another edit, has another digest; another kit changes the
+    sample, but no digest; the sample has the right size, and reaches every name; a definition without a variant is reported."""
     ledger, names = Ledger(tree), [f"{number % 9}/{number}" for number in range(1000)]
     ledger.said = dict.fromkeys(names, Entry("", ledger.kit, "", ""))
     one, other = edits["hart_values/byte_list/clear_keeps_a_byte"], edits["hart_values/byte_list/len_is_halved"]
@@ -130,7 +130,7 @@ def digests_in(tree, name):
 
 
 def missed(tree, what, name, texts):
-    """Tells of a change, and returns the functions that the prover checks anew though their digest is the same."""
+    """Prints what a change does, and returns complaints: a function that the prover checks anew with the same digest, or no verdict."""
     with copied([name]) as room:
         said = room.check(name, [], texts)
     after = tree.with_texts({f"crates/{name}/{file}": text for file, text in texts.items()})

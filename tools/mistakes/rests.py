@@ -19,7 +19,7 @@ WORD = re.compile(r"[\w'][\w'-]*")
 
 
 class Reached(NamedTuple):
-    """A declaration of specs/ or proofs/ as others see it, or, with no text, what is taken from the toolchain or by a `use` of code."""
+    """A declaration of specs/ or proofs/ as others see it. Without a text it is a name of the toolchain, or a path in a `use` of code."""
 
     module: str
     name: str
@@ -48,8 +48,8 @@ class Rests:
 
     @functools.cache
     def scope(self, crate, file, is_outside=False):
-        """The declarations that a file can name, or only those that it shows to others, by its names for them; under "*" the modules of the
-        toolchain that it takes whole."""
+        """Returns the declarations that a file can name, by its names for them; with `is_outside` only those that it shows to others. Under
+        "*" are the modules that it imports as a whole and that are not of the repository."""
         found = defaultdict(set)
         for is_public, other, names in crate.uses.get(file, ()):
             if is_outside and not is_public:
@@ -65,7 +65,7 @@ class Rests:
 
     @functools.cache
     def words_of(self, text, crate, file):
-        """The names in a text, with the operators of its scope that it may use, by any of their parts."""
+        """Returns the words in a text, and each operator of its scope of which some part stands in the text."""
         operators = [it for it in self.scope(crate, file) if "◌" in it and any(part and part in text for part in it.split("◌"))]
         return {*WORD.findall(text), *operators}
 
@@ -101,13 +101,13 @@ class Rests:
         return [(self.own.modules[module_at(self.own.name, file)][name].whole, self.own, file)]
 
     def digest(self, said, starts):
-        """A sum of all on which a refusal rests: of what is tried, in these words, and of all that these texts can reach."""
+        """Returns a digest of all on which a refusal rests: what is tried (`said`), the texts `starts`, and all that they reach."""
         return sum_of(rules(), self.lines, said, [it[0] for it in starts], sorted({it.key() for it in Walk(self, starts).reached}))
 
 
 class Walk:
-    """A walk from texts along the words in them to all that they can reach: declarations, and items and paths of code. A close one reaches
-    less: a declaration names items of code only by what it imports, and a text names none of crates above its own."""
+    """A walk from texts along their words to all that these can reach: declarations, and items and paths of code. A close one (`is_close`)
+    follows a word of an antt file to code only if the file imports it, and goes to no item of crates above the crate of the text."""
 
     def __init__(self, rests, starts, is_close=False):
         self.rests, self.is_close, self.texts, self.reached, self.words, self.waiting = rests, is_close, list(starts), set(), set(), {}
@@ -133,7 +133,7 @@ class Walk:
                 self.declare(*target, crate)
 
     def say(self, word, crate):
-        """Takes up the items of code that a word may name in a crate. A method waits until its type is named, too."""
+        """Reaches the items of code that a word may name. A method is not reached until its type is named, too."""
         at = self.rests.below[crate.name] if self.is_close else self.rests.crates.keys()
         found = [] if word in self.words else [*self.waiting.pop(word, ()), *self.rests.impls.get(word, ())]
         self.words.add(word)
@@ -144,7 +144,7 @@ class Walk:
             self.reach(it, self.rests.crates[it.crate], it.file)
 
     def declare(self, module, name, crate):
-        """Takes up a declaration that a crate names, or what stands for it."""
+        """Reaches a declaration that a crate names. For a module that the prover made, it reaches the items of code that the path names."""
         declared = self.rests.modules.get(module, {})
         if name in declared:
             self.reach(Reached(module, name, declared[name].seen), *self.rests.files[module])
@@ -162,6 +162,6 @@ def sum_of(*parts):
 
 @functools.cache
 def rules(name="verdicts"):
-    """A sum of a module that judges what the prover says: a change of it has everything tried anew."""
+    """Returns a checksum of all text of verdicts.py or places.py. Digests contain it, so a change has what they judge tried again."""
     with open(f"{os.path.dirname(__file__)}/{name}.py", "rb") as it:
         return sum_of(it.read())

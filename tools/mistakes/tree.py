@@ -1,4 +1,4 @@
-"""The crates of a repository as texts, without comments: their items, and the declarations of their definitions and proofs."""
+"""Reads the crates of a repository: their files, with and without comments, their items of code, and the declarations of antt files."""
 
 import glob
 import itertools
@@ -15,13 +15,13 @@ NO_DECLARATION = re.compile(r"(?:unfoldable )?(?:pub )?(?:use|mod) |infix")
 # A declaration begins with such a word, or with its name, which may be an operator, and a colon.
 HEAD = re.compile(r"((?:(?:pub|abbrev|unfoldable|opaque|record|data|ruleset) )+(?=\S)|(?=\S+ :))([^\s:]+)(?: |$)")
 INNER = re.compile(r"^((?:mutual|module\b(?:.|\n    )*? where)\n)((?:  .*\n?)+)", re.M)
-# What an attribute of code gives the tactics, by paths of code.
+# The lemmas and definitions that an attribute of code gives to the tactics, as paths of code.
 GIVEN = re.compile(r"\b(?:using|unfolding)\(([^()]*)\)")
 CODE_USE = re.compile(r"(?m)^ *(?:pub(?:\([^)]*\))? )?use ((?!Rattle\.)[^;]*);")
 
 
 class Declared(NamedTuple):
-    """A declaration of specs/ or proofs/: its text as others see it, which is of a lemma the statement, and its whole text."""
+    """A declaration of specs/ or proofs/: its text as others see it, and its whole text. Of a lemma others see only the statement."""
 
     seen: str
     whole: str
@@ -33,8 +33,8 @@ def module_at(crate, file):
 
 
 def uses_of(text):
-    """The names that a text takes from elsewhere: whether it passes them on, their module, and those there by those here; of one that it
-    takes whole, the name here."""
+    """Returns a triple for each `use` of a text: whether it is public, its module, and the names in that module by their names here. If the
+    module is used as a whole, the third part is its name here, as a string."""
     found = []
     for is_public, module, names, here in USE.findall(text):
         pairs = [it.partition(" as ") for it in names.split(", ")]
@@ -44,13 +44,13 @@ def uses_of(text):
 
 
 def given_by(text, crate):
-    """The names that attributes of a file of code give the tactics, in the form of `uses_of`."""
+    """Returns the names that the attributes in a text of code give to the tactics, in the form of `uses_of`."""
     paths = [it.strip().split("::") for given in GIVEN.findall(text) for it in given.split(",") if it.strip()]
     return [(False, ".".join(["Rattle", crate if at == "crate" else at, *inside]), {name: name}) for at, *inside, name in paths]
 
 
 def paths_of(text):
-    """The paths that the `use` items of a file of code give to names, by the words at their ends."""
+    """Returns the paths in the `use` items of a text of code, by their last names; with `as`, by both names."""
     found = {}
     for path in CODE_USE.findall(text):
         parts = [it.strip() for it in re.split(r"[{},]", path)]
@@ -62,7 +62,7 @@ def paths_of(text):
 
 
 def declarations_of(text, is_spec):
-    """The declarations of an antt text by name. A definition, and what can be unfolded, is seen whole."""
+    """Returns the declarations of an antt text by name. Others see a definition, or whatever can be unfolded, as a whole."""
     found = {}
     for opening, inner in INNER.findall(text):
         for own, it in declarations_of(re.sub("^  ", "", inner, flags=re.M), is_spec).items():
@@ -99,7 +99,7 @@ class CrateTexts:
         self.modules = {at: declarations_of(self.plain[it], it.startswith("specs/")) for at, it in self.files.items()}
 
     def inner_attributes(self, file):
-        """The attributes that stand atop the crate, the modules around a file of code, and the file."""
+        """Returns the inner attributes (`#!`) of the crate, of the modules around a file of code, and of the file itself."""
         folders = file.split("/")[:-1]
         files = ["src/lib.rt", "src/main.rt", *(f"{'/'.join(folders[:it])}.rt" for it in range(2, len(folders) + 1)), file]
         return packed(sorted(it for at in files for it in self.lines.get(at, ()) if it.startswith("#!")))
@@ -110,7 +110,7 @@ class CrateTexts:
         return list(itertools.takewhile(lambda it: it.strip().startswith("#["), above))[::-1]
 
     def modules_read_with(self, function):
-        """The modules of lemmas that are checked with a function, since its written proof or its attributes take names from them."""
+        """Returns the modules of lemmas that are checked with a function: its written proof, its attributes or such a module use them."""
         given = given_by("\n".join([self.inner_attributes(function.file), *self.attributes_of(function)]), self.name)
         found = [at for _, at, _ in given if at in self.files]
         found += [at for at, it in self.files.items() if os.path.dirname(it) == function.proofs()]

@@ -34,7 +34,7 @@ def explained_examples(top):
 
 
 def with_texts(lines, text):
-    """Returns the lines with another text in place of each text that comes from a capture or a name that may be anything."""
+    """Returns the lines with `text` in place of each string, except hex, dates and the members in NAMES."""
     def other(value, name=""):
         """Returns a value with other texts."""
         if isinstance(value, dict):

@@ -69,7 +69,7 @@ BEGUN_HEADER = "    seems: request of the primary master to device 37420A1B2C, C
 
 
 def said_of(read):
-    """What `hart explain` says of that message, with these items as the first of those that it lacks."""
+    """Returns what `hart explain` says of BEGUN with the items `read` after it."""
     chars = read.split()
     for number, item in enumerate(chars):
         if "!" in item:
