@@ -1,5 +1,6 @@
 """Counts the instructions that a run takes, by `valgrind --tool=callgrind` where it is there: the same from run to run."""
 
+import os
 import pathlib
 import re
 import shutil
@@ -8,6 +9,9 @@ import tempfile
 
 # The size of the part to which a whole text is compared.
 PART = 65_536
+# For long blocks the C library uses `rep stosb` and `rep movsb`. A processor counts one instruction for a block, but valgrind counts each
+# step, up to two for each byte. With these limits the C library moves and fills all blocks by loops over vectors instead.
+LOOPS = "glibc.cpu.x86_rep_movsb_threshold=1000000000:glibc.cpu.x86_rep_stosb_threshold=1000000000"
 
 
 def instructions(command, text):
@@ -18,7 +22,8 @@ def instructions(command, text):
         file.write(text)
         file.seek(0)
         counting = ["valgrind", "--tool=callgrind", f"--callgrind-out-file={pathlib.Path(folder) / 'counts'}"]
-        run = subprocess.run(counting + command, stdin=file, stdout=subprocess.DEVNULL, stderr=subprocess.PIPE, text=True, check=True)
+        how = {"stdout": subprocess.DEVNULL, "stderr": subprocess.PIPE, "env": {**os.environ, "GLIBC_TUNABLES": LOOPS}}
+        run = subprocess.run(counting + command, stdin=file, text=True, check=True, **how)
     return int(re.search(r"Collected\s*:\s*(\d+)", run.stderr)[1])
 
 

@@ -75,7 +75,7 @@ until_built() {
 # Builds the library for C, tries the wrong bodies on what its proof has left in the tree, and runs the scripts that use either.
 beside() {
     renice -n 10 "$BASHPID" >/dev/null
-    python3 tools/build.py --jobs 1 hart_c && (cd crates/hart_c && rt lib --jobs 1) >build/logs/hart_c.log 2>&1
+    python3 tools/build.py --jobs "$(lanes)" hart_c && (cd crates/hart_c && rt lib --jobs "$(lanes)") >build/logs/hart_c.log 2>&1
     RT_JOBS=2 python3 tools/mistakes.py --gate
     run_all "python3 tools/mistakes.py --can-fail" "sh tools/held-view.sh" "python3 tools/vector_bugs.py"
     until_built
