@@ -1,4 +1,3 @@
 -- `hart dump`.
-pub mod Faults
 pub mod FrameLines
 pub mod ScanInput

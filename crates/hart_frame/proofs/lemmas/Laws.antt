@@ -1,10 +1,11 @@
 -- The laws of bodies, frames, scanners, starts, damage and sightings, for the proofs of this crate and of the crates above it.
-use Rattle.hart_frame.proofs.Common.{arith, ◌≡◌, ◌↔◌, ℕ, Bool, IsTrue, List, [], ◌++◌, drop, length, map, append-nil, Found, Character}
+use Rattle.hart_frame.proofs.Common.{arith, ◌≡◌, ◌≢◌, ◌↔◌, ◌+◌, ℕ, Bool, false, IsTrue, List, [], ◌∷◌, ◌++◌, drop, length, map, append-nil}
+use Rattle.hart_frame.proofs.Common.{Found, Character}
 use Rattle.hart_frame.proofs.Common.{AreFrames, moved, AreNext, Scan}
 use Rattle.hart_frame.specs.scan.Streamed.{IsHistory}
 use Rattle.hart_frame.proofs.lemmas.heard.Place.{HasNoFrame-end}
 use Rattle.hart_frame.proofs.lemmas.heard.Rest.{rest_frames, rest_only}
-use Rattle.hart_frame.proofs.lemmas.scan.Next.{next_frames}
+use Rattle.hart_frame.proofs.lemmas.scan.Next.{next_at_fault, next_frames}
 use Rattle.hart_frame.proofs.lemmas.scan.Stream.{history_next, next_rest}
 pub use Rattle.hart_frame.proofs.lemmas.heard.FramesFound.{AreFrames-one as frames_are_unambiguous-one_list}
 pub use Rattle.hart_frame.proofs.lemmas.scan.Next.{next_grown as next_frames_are_all-grown, next_of_rest as next_frames_are_all-moved}
@@ -50,6 +51,10 @@ next_frames_are_all-all chars ended given next =
     rw append-nil at
     (next_frames chars ended 0 (length chars) given [] next
     (AreFrames.none (length chars) (HasNoFrame-end chars (length chars) (omega arith))))
+
+pub next_frames_are_all-fault : (chars : List Character) (character : Character) (given : List Found) → character.faults ≢ 0
+    → AreFrames chars 0 given → AreNext (chars ++ character ∷ []) false 0 given (length chars + 1)
+next_frames_are_all-fault chars character given bad = next_at_fault chars character 0 given bad (omega arith)
 
 -- An attribute in code cannot name lemmas with a dash in their names, so it names this rule set.
 pub ruleset held_characters_have_the_later_frames =

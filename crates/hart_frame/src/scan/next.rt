@@ -1,5 +1,6 @@
 //! The next frame in bytes in memory. The caller passes the state of the search, so no state is kept between calls.
-ghost use Rattle.std.specs.Prelude.{None, ◌≡◌, ◌<◌, ◌≤◌, ◌+◌, ◌++◌, ◌∷◌, [], Bool, List, ℕ, false, true, IsTrue, IfSome, drop, length, map};
+ghost use Rattle.std.specs.Prelude.{None, ◌≡◌, ◌≢◌, ◌<◌, ◌≤◌, ◌+◌, ◌++◌, ◌∷◌, [], Bool, List, ℕ, false, true, IsTrue, IfSome, drop, length};
+ghost use Rattle.std.specs.Prelude.{map};
 ghost use Rattle.hart_frame.specs.heard.Character.{Character, faultless};
 ghost use Rattle.hart_frame.specs.heard.Frames.{AreFrames, IsUndecided, moved};
 ghost use Rattle.hart_frame.specs.scan.Next.{AreNext, frames_of};
@@ -67,7 +68,8 @@ pub fn next_in_bytes(bytes: &[u8], from: usize, ended: bool) -> NextInBytes<'_>
 ///
 /// A caller may keep only the characters that are not used up. Every frame that is still to be found stands in these characters and in
 /// those that come later. The next frames of these characters, with places counted in the whole list, are the next frames of the whole
-/// list. Once all characters are used up, all frames of the list are found.
+/// list. Once all characters are used up, all frames of the list are found. No frame contains a character with fault bits, so such a
+/// character decides all frames before it.
 pub fn next_frames_are_all()
     ensures nothing { (chars : List Character) (ended : Bool) (place : ℕ) → place ≤ length chars → AreNext chars ended place [] place }
     ensures some { (chars : List Character) (ended : Bool) (from to : ℕ) (found : Found) (more : List Found)
@@ -86,4 +88,6 @@ pub fn next_frames_are_all()
     ensures all { (chars : List Character) (ended : Bool) (given : List Found) → AreNext chars ended 0 given (length chars)
         → AreFrames chars 0 given }
     ensures whole { (chars : List Character) (given : List Found) → AreFrames chars 0 given → AreNext chars true 0 given (length chars) }
+    ensures fault { (chars : List Character) (character : Character) (given : List Found) → character.faults ≢ 0
+        → AreFrames chars 0 given → AreNext (chars ++ character ∷ []) false 0 given (length chars + 1) }
 {}

@@ -7,16 +7,15 @@ use Rattle.hart_frame.specs.declared.heard.found.Found.{Found}
 use Rattle.hart_frame.specs.heard.Character.{Character, faultless}
 use Rattle.hart_frame.specs.heard.Frames.{AreFrames, HasNoFrame, IsUndecided, moved}
 use Rattle.hart_frame.specs.scan.Next.{AreNext}
-use Rattle.hart_frame.proofs.lemmas.Laws.{every_list_has_frames, next_frames_are_all-all, next_frames_are_all-grown}
-use Rattle.hart_frame.proofs.lemmas.Laws.{next_frames_are_all-moved, next_frames_are_all-nothing, next_frames_are_all-onward}
-use Rattle.hart_frame.proofs.lemmas.Laws.{next_frames_are_all-rest}
+use Rattle.hart_frame.proofs.lemmas.Laws.{every_list_has_frames, next_frames_are_all-all, next_frames_are_all-fault}
+use Rattle.hart_frame.proofs.lemmas.Laws.{next_frames_are_all-grown, next_frames_are_all-moved, next_frames_are_all-nothing}
+use Rattle.hart_frame.proofs.lemmas.Laws.{next_frames_are_all-onward, next_frames_are_all-rest}
 use Rattle.hart_text.specs.Items.{ReadsUpTo}
 use Rattle.hart_text.proofs.lemmas.Items.{ReadsUpTo-on}
 use Rattle.hart_cli.specs.declared.calls.dump.frame_lines.FrameLines.{FrameLines}
 use Rattle.hart_cli.specs.dump.Dump.{AreDecided, AreFrameLines}
 use Rattle.hart_cli.specs.dump.FrameLines.{AddsDecided, AddsRest, HasLines, Hears, HearsText, IsWaiting, lines_from}
 use Rattle.hart_cli.specs.dump.Text.{dump_line, line_room}
-use Rattle.hart_cli.proofs.lemmas.dump.Faults.{next_at_fault}
 
 -- a list of faultless characters is as long as the list of their bytes
 pub long_is : (bytes : List ℕ) → length (faultless bytes) ≡ length bytes
@@ -153,19 +152,10 @@ heard_bytes old new bytes used adds first held =
 -- bytes that are searched in place, while none are held, are heard
 pub heard_in_place : (old new : FrameLines) (bytes : List ℕ) (used : ℕ) → old.held ≡ []
     → AddsDecided old.first bytes false used old.lines new.lines → new.first ≡ old.first + used
-    → new.held ≡ old.held ++ drop used bytes → Hears old new (faultless bytes)
+    → new.held ≡ old.held ++ drop used bytes → Hears old new (faultless bytes) × IsWaiting new.held
 heard_in_place old new bytes used none adds first held =
     let all : old.held ++ bytes ≡ bytes = rw none refl in
-    (heard_bytes old new bytes used (rw all adds) first (rw all (rw none at held))).0
-
-pub waits_in_place : (first : ℕ) (before held bytes lines after : List ℕ) (used : ℕ) → before ≡ []
-    → AddsDecided first bytes false used lines after → held ≡ before ++ drop used bytes → IsWaiting held
-waits_in_place first before held bytes lines after used none adds is =
-    let rest : held ≡ drop used bytes = rw none at is in
-    record {
-      undecided = rw rest (adds.undecided refl);
-      few = rw rest (omega (arith, adds.few, adds.within, length-drop used bytes));
-    }
+    heard_bytes old new bytes used (rw all adds) first (rw all (rw none at held))
 
 -- a character with faults, after which nothing is held, is heard
 pub heard_fault : (old new : FrameLines) (c : Character) (used : ℕ) → c.faults ≢ 0
@@ -178,7 +168,8 @@ heard_fault old new c used bad adds first none =
     record {
       given = adds.given;
       used = used + 1;
-      next = rw (← all) at (next_at_fault (faultless old.held) c adds.given bad (rw all at adds.next));
+      next = rw (← all) at (next_frames_are_all-fault (faultless old.held) c adds.given bad
+          (next_frames_are_all-all (faultless old.held) true adds.given (rw all at adds.next)));
       first = first;
       held = rw none (sym (drop_all (used + 1) (faultless old.held ++ c ∷ []) (omega (arith, all, end))));
       adds = adds.adds;

@@ -123,6 +123,7 @@ impl FrameLines {
     }
 
     /// Hears the character of an item or a separator. A separator has no character, and changes nothing.
+    #[tactic(auto, using(crate::proofs::lemmas::dump::FrameLines::hears_nothing))]
     fn hear_char(&mut self, char: Option<Char>)
         requires waiting { IsWaiting self.old.held }
         requires room { HasRoomFor (length (option_to_list char)) self.old }

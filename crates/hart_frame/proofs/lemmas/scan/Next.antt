@@ -1,9 +1,10 @@
 -- The next frames of characters: from a place on, when more characters come, in the rest of a list, and in bytes.
-use Rattle.hart_frame.proofs.Common.{◌≡◌, ℕ, ◌+◌, ◌-◌, ◌<◌, ◌≤◌, ◌⊎◌, inl, inr, Bool, false, true, IsTrue, List, [], ◌∷◌, ◌++◌, length, map}
+use Rattle.hart_frame.proofs.Common.{◌≡◌, ◌≢◌, ℕ, ◌+◌, ◌-◌, ◌<◌, ◌≤◌, ◌⊎◌, inl, inr, Bool, false, true, IsTrue, List, [], ◌∷◌, ◌++◌, length}
+use Rattle.hart_frame.proofs.Common.{map}
 use Rattle.hart_frame.proofs.Common.{drop, append_assoc, arith, length-append, length-drop, refl, subst, sym, ap, ◌∙◌, append-nil, drop-map}
 use Rattle.hart_frame.proofs.Common.{drop-append-le, drop-drop, length-map, length-take-le, map-append, take_at, All-append, All, Found}
 use Rattle.hart_frame.proofs.Common.{slice_range, Layout, Character, faultless, AreFrames, moved, none, first, BeginWithNone, IsWhole}
-use Rattle.hart_frame.proofs.Common.{layout_length, AreNext, IsBody, FrameParts, All-cons, All-map}
+use Rattle.hart_frame.proofs.Common.{common_steps, layout_length, AreNext, StandsIn, IsBody, FrameParts, All-cons, All-map}
 use Rattle.std.proofs.lemmas.List.Elements.{All-nil, All-weaker}
 use Rattle.hart_frame.specs.private.Search.{NoneBeginThen}
 use Rattle.hart_frame.proofs.lemmas.heard.FramesFound.{AreFrames-earlier, AreFrames-found, head_first}
@@ -156,3 +157,54 @@ next_past bytes ended from place len layout frame after within never whole same 
     let one = next_one (faultless bytes) ended place frame whole.body (faultless whole.rest) (rw length-map within) parts
     (rw (body_at_place bytes place len layout whole same) at body) in
     next_then (faultless bytes) ended from place (place + 2 + len) [] _ (next_to bytes ended from place after within never) (rw long one)
+
+-- A CHARACTER WITH FAULT BITS
+-- Faultless bytes that begin before a character with fault bits also end before it.
+before_fault : (chars more rest : List Character) (c : Character) (bytes : List ℕ) → c.faults ≢ 0
+    → chars ++ c ∷ more ≡ faultless bytes ++ rest → chars ≡ faultless bytes ++ drop (length bytes) chars
+before_fault chars more rest c [] bad same = refl
+before_fault [] more rest c (byte ∷ bytes) bad same = absurd (bad (grind (arith, common_steps)))
+before_fault (x ∷ chars) more rest c (byte ∷ bytes) bad same = grind (arith, common_steps, before_fault chars more rest c bytes bad)
+
+-- A frame that begins before a character with fault bits stands before it.
+stands_before : (chars more rest : List Character) (c : Character) (place : ℕ) (frame : FrameParts) (body : List ℕ) → c.faults ≢ 0
+    → place ≤ length chars → IsBody frame body → drop place (chars ++ c ∷ []) ++ more ≡ faultless (255 ∷ 255 ∷ body) ++ rest
+    → StandsIn (record { start = place + 2; stop = place + 2 + length body; frame = frame }) chars place
+stands_before chars more rest c place frame body bad within is same =
+    let split : drop place chars ++ c ∷ more ≡ faultless (255 ∷ 255 ∷ body) ++ rest =
+    rw (drop-append-le place chars (c ∷ []) within, append_assoc) at same in
+    stands_at chars place frame body _ within (before_fault (drop place chars) more rest c (255 ∷ 255 ∷ body) bad split) is
+
+-- Before a character with fault bits there are no next frames up to a place if no frame that stands before it begins before that place.
+none_before : (chars : List Character) (c : Character) (from to : ℕ) → c.faults ≢ 0 → from ≤ to → to ≤ length chars + 1
+    → ((found : Found) → StandsIn found chars from → found.start < to + 2 → ⊥) → AreNext (chars ++ c ∷ []) false from [] to
+none_before chars c from to bad order within never =
+    next_none (chars ++ c ∷ []) false from to order (omega (arith, within, length-append chars (c ∷ [])))
+    (λ place since below more closed frame body rest is same.
+    let stands = stands_before chars more rest c place frame body bad (omega (arith, below, within)) is same in
+    never _ (StandsIn-from _ chars place from stands (omega (arith, since))) (omega (arith, below)))
+
+-- Once a character with fault bits comes, the frames of the characters before it are the next ones.
+pub next_at_fault : (chars : List Character) (c : Character) (from : ℕ) (frames : List Found) → c.faults ≢ 0 → from ≤ length chars
+    → AreFrames chars from frames → AreNext (chars ++ c ∷ []) false from frames (length chars + 1)
+next_at_fault chars c from _ bad within (none _ empty) =
+    none_before chars c from (length chars + 1) bad (omega (arith, within)) (omega arith) (λ found stands early. empty found stands)
+next_at_fault chars c from _ bad within (first _ found later is others) =
+    let stands = is.stands in
+    let lies = StandsIn-within found chars from stands in
+    let place = found.start - 2 in
+    let start : found.start ≡ place + 2 = omega (arith, lies.after) in
+    let before = none_before chars c from place bad (omega (arith, lies.after)) (omega (arith, lies.some, lies.within))
+    (λ other there early. omega (arith, is.least other there, early, start)) in
+    let parts : drop place (chars ++ c ∷ []) ≡ faultless (255 ∷ 255 ∷ stands.body) ++ (stands.rest ++ c ∷ []) =
+    drop-append-le place chars (c ∷ []) (omega (arith, lies.some, lies.within))
+    ∙ (ap (λ (cs : List Character). cs ++ c ∷ []) (StandsIn-at chars place from found stands start)
+    ∙ append_assoc (faultless (255 ∷ 255 ∷ stands.body)) stands.rest (c ∷ [])) in
+    let one = next_one (chars ++ c ∷ []) false place found.frame stands.body (stands.rest ++ c ∷ [])
+    (omega (arith, lies.some, lies.within, length-append chars (c ∷ []))) parts stands.is_body in
+    let stop : found.stop ≡ place + 2 + length stands.body = omega (arith, stands.start, stands.stop, start) in
+    let same : record { start = place + 2; stop = place + 2 + length stands.body; frame = found.frame } ≡ found =
+    grind (arith, start, stop) in
+    next_then (chars ++ c ∷ []) false from place (length chars + 1) [] (found ∷ later) before
+    (next_then (chars ++ c ∷ []) false place found.stop (length chars + 1) (found ∷ []) later (rw (same, ← stop) at one)
+    (next_at_fault chars c found.stop later bad lies.within others))

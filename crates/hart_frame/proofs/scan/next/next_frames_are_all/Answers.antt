@@ -1,4 +1,5 @@
-use Rattle.hart_frame.proofs.lemmas.Laws.{next_frames_are_all-all, next_frames_are_all-ended, next_frames_are_all-grown}
+use Rattle.hart_frame.proofs.lemmas.Laws.{next_frames_are_all-all, next_frames_are_all-ended, next_frames_are_all-fault}
+use Rattle.hart_frame.proofs.lemmas.Laws.{next_frames_are_all-grown}
 use Rattle.hart_frame.proofs.lemmas.Laws.{next_frames_are_all-moved, next_frames_are_all-nothing, next_frames_are_all-onward}
 use Rattle.hart_frame.proofs.lemmas.Laws.{next_frames_are_all-rest, next_frames_are_all-some, next_frames_are_all-whole}
 use Rattle.hart_frame.proofs.scan.next.next_frames_are_all.Goals as goal
@@ -14,4 +15,5 @@ returns c = record {
   rest = next_frames_are_all-rest;
   all = next_frames_are_all-all;
   whole = next_frames_are_all-whole;
+  fault = next_frames_are_all-fault;
 }
