@@ -62,10 +62,10 @@ pub record Stands (Told : List Dated → Type 0) (past : Past) (date : ℕ → L
   pub within : used ≤ length held
   pub dates : (place : ℕ) → first ≤ place → date place ≡ date_of heard place
   pub alike : AreAlike (recalled past.last) (before ++ map (moved_seen (total earlier)) seen)
-  pub stop : past.stop ≡ last_stop 0 (dated_after (date_of heard) [] (before ++ map (moved_seen (total earlier)) seen))
+  pub stop : past.stop ≡ last_stop (before ++ map (moved_seen (total earlier)) seen)
   pub preambles : past.preambles ≡ last_preambles (take base chars)
   pub told : Told
-      (counted (preambles_of heard) 0 (dated_after (date_of heard) [] (before ++ map (moved_seen (total earlier)) seen)))
+      (counted (preambles_of heard) [] (dated_after (date_of heard) [] (before ++ map (moved_seen (total earlier)) seen)))
 
 -- All that was heard is told as far as it is decided, and the rest is held.
 abbrev pub StandsFor : (List Dated → Type 0) → Bool → Listener → List Heard → Type 0

@@ -1,5 +1,6 @@
 -- How many preamble bytes stand right before a message (implementation choice).
-use Rattle.std.specs.Prelude.{◌-◌, ◌++◌, ℕ, List, [], ◌∷◌, Option, None, Some, if◌then◌else◌, length, min, nat_le, nat_lt, replicate, take}
+use Rattle.std.specs.Prelude.{◌-◌, ◌++◌, ℕ, List, [], ◌∷◌, Option, None, Some, if◌then◌else◌, length, min, nat_le, nat_lt, replicate, reverse}
+use Rattle.std.specs.Prelude.{slice_index, take}
 use Rattle.std.specs.List.{flat_map, suffix_len}
 use Rattle.hart_frame.specs.heard.Character.{Character, faultless}
 use Rattle.hart_frame.specs.heard.Miss.{is_preamble}
@@ -21,37 +22,41 @@ preambles_in (chars ∷ later) place =
 abbrev pub preambles_of : List Heard → ℕ → ℕ
 preambles_of heard place = preambles_in (stretches heard) place
 
+-- The list with the place after a message. The list of a miss is empty.
+abbrev pub stop_of : Seen → List ℕ
+stop_of (Message found) = found.stop ∷ []
+stop_of (Missed place miss header) = []
+
+-- The place after the last message among sightings, or 0 if there is none.
+abbrev pub last_stop : List Seen → ℕ
+last_stop seen = slice_index (reverse (flat_map stop_of seen)) 0
+
+-- How many intact preamble bytes a message has: those right before its delimiter that do not belong to the message before it. `preambles`
+-- gives for each place how many stand right before it, and `earlier` are the sightings before the message. A miss has no number.
+abbrev pub own_preambles : (ℕ → ℕ) → List Seen → Seen → Option ℕ
+own_preambles preambles earlier (Message found) = Some (min (preambles found.start) (found.start - last_stop earlier))
+own_preambles preambles earlier (Missed place miss header) = None
+
+-- A dated sighting with the number of its preamble bytes.
+abbrev pub counted_one : (ℕ → ℕ) → List Seen → Dated → Dated
+counted_one preambles earlier told =
+    record told { before = record told.before { preambles = own_preambles preambles earlier told.seen } }
+
+-- Dated sightings with the numbers of their preamble bytes. `earlier` are the sightings before the first of them.
+abbrev pub counted : (ℕ → ℕ) → List Seen → List Dated → List Dated
+counted preambles earlier [] = []
+counted preambles earlier (told ∷ later) = counted_one preambles earlier told ∷ counted preambles (earlier ++ told.seen ∷ []) later
+
+-- The JSON lines of sightings, with their dates and their preamble bytes.
+abbrev pub object_lines : (ℕ → List ℕ) → (ℕ → ℕ) → List Seen → List ℕ
+object_lines date preambles seen = flat_map line_of (counted preambles [] (dated_after date [] seen))
+
+-- Only private calls use the definitions from here on.
+
 -- The place after the last message, when one more sighting is seen. `stop` is the place after the last message before it, or 0.
 abbrev pub stop_after : ℕ → Seen → ℕ
 stop_after stop (Message found) = found.stop
 stop_after stop (Missed place miss header) = stop
-
--- How many intact preamble bytes a message has: those right before its delimiter that do not belong to the message before it. `preambles`
--- gives for each place how many stand right before it, and `stop` is the place after the message before. A miss has no number.
-abbrev pub own_preambles : (ℕ → ℕ) → ℕ → Seen → Option ℕ
-own_preambles preambles stop (Message found) = Some (min (preambles found.start) (found.start - stop))
-own_preambles preambles stop (Missed place miss header) = None
-
--- A dated sighting with the number of its preamble bytes.
-abbrev pub counted_one : (ℕ → ℕ) → ℕ → Dated → Dated
-counted_one preambles stop told =
-    record told { before = record told.before { preambles = own_preambles preambles stop told.seen } }
-
--- Dated sightings with the numbers of their preamble bytes. `stop` is the place after the last message before the first of them, or 0.
-abbrev pub counted : (ℕ → ℕ) → ℕ → List Dated → List Dated
-counted preambles stop [] = []
-counted preambles stop (told ∷ later) = counted_one preambles stop told ∷ counted preambles (stop_after stop told.seen) later
-
--- The JSON lines of sightings, with their dates and their preamble bytes.
-abbrev pub object_lines : (ℕ → List ℕ) → (ℕ → ℕ) → List Seen → List ℕ
-object_lines date preambles seen = flat_map line_of (counted preambles 0 (dated_after date [] seen))
-
--- The place after the last message of dated sightings. `stop` is the place after the last message before the first of them, or 0.
-abbrev pub last_stop : ℕ → List Dated → ℕ
-last_stop stop [] = stop
-last_stop stop (told ∷ later) = last_stop (stop_after stop told.seen) later
-
--- Only private calls use the definitions from here on.
 
 -- Some preamble bytes, and then these characters.
 abbrev pub after_preambles : ℕ → List Character → List Character

@@ -4,7 +4,7 @@ ghost use Rattle.std.specs.Option.{option_to_list};
 ghost use Rattle.hart_explain.specs.Sighting.{FitsFrom};
 ghost use Rattle.hart_frame.specs.declared.scan.sighting.After.TheVariants.{End};
 ghost use Rattle.hart_frame.specs.heard.Character.{faultless};
-ghost use Rattle.hart_frame.specs.heard.Sighting.{moved_seen};
+ghost use Rattle.hart_frame.specs.heard.Sighting.{Seen, moved_seen};
 ghost use Rattle.hart_frame.specs.scan.Sighting.{AfterIsValid, heard_with, is_end, seen_of};
 ghost use Rattle.hart_text.specs.Heard.{Date, NothingBegins, Silence, heard_chars};
 ghost use Rattle.hart_text.specs.Items.{NoPieceBegins};
@@ -15,7 +15,7 @@ ghost use Rattle.hart_listen.specs.Gaps.{seen_place};
 ghost use Rattle.hart_listen.specs.LastMessages.{KeepsOwn, recalled};
 ghost use Rattle.hart_listen.specs.Listener.{DecidesNoMore, Explains, Hears, HearsText, IsNew, IsNextSighting, IsWaiting, chars_after};
 ghost use Rattle.hart_listen.specs.Listener.{dated_from};
-ghost use Rattle.hart_listen.specs.Preambles.{counted, preambles_at, preambles_dropped, stop_after};
+ghost use Rattle.hart_listen.specs.Preambles.{counted, last_stop, preambles_at, preambles_dropped, stop_after};
 ghost use Rattle.hart_listen.specs.Teller.{Tells, moment};
 
 use crate::dates::Dates;
@@ -292,9 +292,9 @@ fn tell_sighting<W, T: Teller<W>>(
     requires within { seen_place (seen_of sighting.now) ≤ length held.now }
     requires few { past.old.preambles + length held.now < 2 ^ 64 }
     requires own { KeepsOwn (2 ^ 64 - 2) past.old.last }
-    ensures tells { Tells T.told
+    ensures tells { (earlier : List Seen) → past.old.stop ≡ last_stop earlier → Tells T.told
         (moment teller.old writer.old) (moment teller.new writer.new)
-        (counted (preambles_at past.old.preambles first (faultless held.now)) past.old.stop
+        (counted (preambles_at past.old.preambles first (faultless held.now)) earlier
         (dated_from past.old.last (λ place. date_at dates.now (place - first)) first (seen_of sighting.now ∷ []))) }
     ensures alike { AreAlike (recalled past.new.last) (recalled past.old.last ++ map (moved_seen first) (seen_of sighting.now ∷ [])) }
     ensures own { (most : ℕ) → KeepsOwn most past.old.last → KeepsOwn (most + 1) past.new.last }

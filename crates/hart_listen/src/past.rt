@@ -1,14 +1,15 @@
 //! What is kept of what was told and dropped.
-ghost use Rattle.std.specs.Prelude.{◌≡◌, ◌+◌, ◌-◌, ◌<◌, ◌≤◌, ◌++◌, ◌∷◌, ◌^◌, [], ℕ, length};
+ghost use Rattle.std.specs.Prelude.{◌≡◌, ◌+◌, ◌-◌, ◌<◌, ◌≤◌, ◌++◌, ◌∷◌, ◌^◌, [], ℕ, List, length};
 ghost use Rattle.hart_explain.specs.Sighting.{FitsFrom};
 ghost use Rattle.hart_frame.specs.heard.Character.{faultless};
-ghost use Rattle.hart_frame.specs.heard.Sighting.{moved_seen};
+ghost use Rattle.hart_frame.specs.heard.Sighting.{Seen, moved_seen};
 ghost use Rattle.hart_frame.specs.scan.Sighting.{seen_of};
 ghost use Rattle.hart_listen.specs.Before.{AreAlike, before_of};
 ghost use Rattle.hart_listen.specs.Gaps.{seen_place};
 ghost use Rattle.hart_listen.specs.LastMessages.{KeepsOwn, recalled};
 ghost use Rattle.hart_listen.specs.Past.{no_past};
-ghost use Rattle.hart_listen.specs.Preambles.{after_preambles, last_preambles, own_preambles, preambles_at, preambles_dropped, stop_after};
+ghost use Rattle.hart_listen.specs.Preambles.{after_preambles, last_preambles, last_stop, own_preambles, preambles_at, preambles_dropped};
+ghost use Rattle.hart_listen.specs.Preambles.{stop_after};
 
 use crate::last_messages::{LastMessages, hear_sighting, no_messages};
 use hart_explain::Before;
@@ -50,9 +51,10 @@ impl Past {
         requires within { seen_place (seen_of sighting.now) ≤ length held.now }
         requires few { self.old.preambles + length held.now < 2 ^ 64 }
         requires own { KeepsOwn (2 ^ 64 - 2) self.old.last }
-        ensures before { let seen = moved_seen first (seen_of sighting.now) in
+        ensures before { (earlier : List Seen) → self.old.stop ≡ last_stop earlier
+            → let seen = moved_seen first (seen_of sighting.now) in
             result ≡ record (before_of (recalled self.old.last) seen)
-            { preambles = own_preambles (preambles_at self.old.preambles first (faultless held.now)) self.old.stop seen } }
+            { preambles = own_preambles (preambles_at self.old.preambles first (faultless held.now)) earlier seen } }
         ensures alike { AreAlike (recalled self.new.last) (recalled self.old.last ++ moved_seen first (seen_of sighting.now) ∷ []) }
         ensures own { (most : ℕ) → KeepsOwn most self.old.last → KeepsOwn (most + 1) self.new.last }
         ensures stop { self.new.stop ≡ stop_after self.old.stop (moved_seen first (seen_of sighting.now)) }
@@ -72,8 +74,9 @@ impl Past {
         requires places { FitsFrom first sighting.now }
         requires within { seen_place (seen_of sighting.now) ≤ length held.now }
         requires few { self.old.preambles + length held.now < 2 ^ 64 }
-        ensures count { result ≡ own_preambles
-            (preambles_at self.old.preambles first (faultless held.now)) self.old.stop
+        ensures count { (earlier : List Seen) → self.old.stop ≡ last_stop earlier
+            → result ≡ own_preambles
+            (preambles_at self.old.preambles first (faultless held.now)) earlier
             (moved_seen first (seen_of sighting.now)) }
         ensures stop { self.new ≡ record self.old { stop = stop_after self.old.stop (moved_seen first (seen_of sighting.now)) } }
     {

@@ -16,7 +16,7 @@ text_of Objects = line_of
 
 -- The text of sightings in a style is the text of each, in their order. What was heard gives their dates and preamble bytes.
 abbrev pub text_in : Style → List Heard → List Seen → List ℕ
-text_in style heard seen = flat_map (text_of style) (counted (preambles_of heard) 0 (dated_after (date_of heard) [] seen))
+text_in style heard seen = flat_map (text_of style) (counted (preambles_of heard) [] (dated_after (date_of heard) [] seen))
 
 -- The text of what was heard, in a style, is the text of all sightings in it.
 pub record IsTextIn (style : Style) (heard : List Heard) (text : List ℕ) : Type 0 where

@@ -77,6 +77,13 @@ alike_then a b c first used seen given h k =
     (alike_both a b c (map (moved_seen first) seen) (map (moved_seen (first + used)) given) h k)
 
 -- all that was told, followed by the next sightings, are all of them
+pub told_more : (told seen given : List Seen) (first used : ℕ)
+    → (told ++ map (moved_seen first) seen) ++ map (moved_seen (first + used)) given
+    ≡ told ++ map (moved_seen first) (seen ++ map (moved_seen used) given)
+told_more told seen given first used =
+    append_assoc told (map (moved_seen first) seen) (map (moved_seen (first + used)) given)
+    ∙ ap (λ xs. told ++ xs) (both first used seen given)
+
 pub dated_more : (last : LastMessages) (date : ℕ → List ℕ) (told seen given : List Seen) (first used : ℕ)
     → AreAlike (recalled last) (told ++ map (moved_seen first) seen)
     → dated_after date [] (told ++ map (moved_seen first) seen) ++ dated_from last date (first + used) given
@@ -86,4 +93,4 @@ dated_more last date told seen given first used alike =
     let more = map (moved_seen (first + used)) given in
     ap (λ xs. dated_after date [] (told ++ one) ++ xs) (alike_dated date (recalled last) (told ++ one) more alike)
     ∙ (sym (dated_then date [] (told ++ one) more)
-    ∙ ap (dated_after date []) (append_assoc told one more ∙ ap (λ xs. told ++ xs) (both first used seen given)))
+    ∙ ap (dated_after date []) (told_more told seen given first used))

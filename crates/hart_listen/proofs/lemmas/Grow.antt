@@ -3,7 +3,7 @@ use Rattle.std.proofs.Common.{◌≡◌, ◌++◌, ◌∷◌, ◌∙◌, [], Lis
 use Rattle.hart_frame.specs.heard.Sighting.{Seen}
 use Rattle.hart_text.specs.Heard.{Heard, stretches}
 use Rattle.hart_listen.specs.Dated.{Dated, dated_after}
-use Rattle.hart_listen.specs.Preambles.{counted, last_stop, preambles_of}
+use Rattle.hart_listen.specs.Preambles.{counted, preambles_of}
 use Rattle.hart_listen.specs.Sightings.{AreDecided, AreSightingsOf, ComeFirst, date_of}
 use Rattle.hart_listen.proofs.lemmas.Dated.{dated_then}
 use Rattle.hart_listen.proofs.lemmas.Decided.{compare}
@@ -34,17 +34,16 @@ one_decided heard xs ys a b =
 
 -- whatever is heard next, the sightings decided so far are the first ones of all, with the same dates and preamble bytes
 pub dated_grows : (heard more : List Heard) (seen all : List Seen) → AreDecided heard seen → AreSightingsOf (heard ++ more) all
-    → (rest : List Dated) × (counted (preambles_of (heard ++ more)) 0 (dated_after (date_of (heard ++ more)) [] all)
-    ≡ counted (preambles_of heard) 0 (dated_after (date_of heard) [] seen) ++ rest)
+    → (rest : List Dated) × (counted (preambles_of (heard ++ more)) [] (dated_after (date_of (heard ++ more)) [] all)
+    ≡ counted (preambles_of heard) [] (dated_after (date_of heard) [] seen) ++ rest)
 dated_grows heard more seen all decided are =
     let (later, same) = decided.first more all are in
     let date = date_of (heard ++ more) in
     let preambles = preambles_of (heard ++ more) in
-    let first = dated_after date [] seen in
-    let rest = counted preambles (last_stop 0 first) (dated_after date seen later) in
+    let rest = counted preambles seen (dated_after date seen later) in
     let begun = counts_stay heard more seen (first_within heard seen decided.first) in (
       rest,
-      ap (λ xs. counted preambles 0 (dated_after date [] xs)) same
-          ∙ (ap (counted preambles 0) (dated_then date [] seen later)
-          ∙ (counted_then preambles 0 first (dated_after date seen later) ∙ ap (λ xs. xs ++ rest) (sym begun))),
+      ap (λ xs. counted preambles [] (dated_after date [] xs)) same
+          ∙ (ap (counted preambles []) (dated_then date [] seen later)
+          ∙ (counted_then preambles date [] seen (dated_after date seen later) ∙ ap (λ xs. xs ++ rest) (sym begun))),
     )

@@ -36,14 +36,15 @@ heard_few held (Damaged character) = omega (arith, long_is held, length-append (
 heard_few held End = omega (arith, long_is held)
 
 -- the preamble bytes right before held bytes do not depend on what comes after these bytes
-pub counted_held : (preambles stop first : ℕ) (held : List ℕ) (after : After) (date : ℕ → List ℕ) (earlier given : List Seen)
+pub counted_held : (preambles first : ℕ) (before : List Seen) (held : List ℕ) (after : After) (date : ℕ → List ℕ)
+    (earlier given : List Seen)
     → All (λ s. seen_place s ≤ length held) given
-    → counted (preambles_at preambles first (faultless held)) stop (dated_after date earlier (map (moved_seen first) given))
-    ≡ counted (preambles_at preambles first (heard_with held after)) stop (dated_after date earlier (map (moved_seen first) given))
-counted_held preambles stop first held after date earlier given within =
+    → counted (preambles_at preambles first (faultless held)) before (dated_after date earlier (map (moved_seen first) given))
+    ≡ counted (preambles_at preambles first (heard_with held after)) before (dated_after date earlier (map (moved_seen first) given))
+counted_held preambles first before held after date earlier given within =
     let old = preambles_at preambles first (faultless held) in
     let new = preambles_at preambles first (heard_with held after) in
-    counted_same old new stop date earlier (map (moved_seen first) given)
+    counted_same old new before date earlier (map (moved_seen first) given)
     (All-map (CountAlike old new) (moved_seen first) given
     (All-weaker (λ (s : Seen). seen_place s ≤ length held) (λ one. CountAlike old new (moved_seen first one))
     (λ one here.

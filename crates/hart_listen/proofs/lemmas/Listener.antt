@@ -108,17 +108,20 @@ pub explains_next : {T W : Type 0} (Told : ToldBetween T W) (first : ℕ) (held 
     (x y z : Past) (w w1 w2 : Moment T W) (given : List Seen) → Explains Told first held after used dates x y w w1
     → SeesOn (heard_with held after) (is_end after) used given to → to ≤ length (heard_with held after)
     → All (λ s. seen_place s < length (heard_with held after)) given → All (λ s. seen_place s ≤ length held) given
-    → Tells Told w1 w2 (counted (preambles_at y.preambles first (faultless held)) y.stop
-    (dated_from y.last (λ place. date_at dates (place - first)) first given))
+    → ((earlier : List Seen) → y.stop ≡ last_stop earlier
+    → Tells Told w1 w2 (counted (preambles_at y.preambles first (faultless held)) earlier
+    (dated_from y.last (λ place. date_at dates (place - first)) first given)))
     → AreAlike (recalled z.last) (recalled y.last ++ map (moved_seen first) given)
-    → z.stop ≡ last_stop y.stop (dated_from y.last (λ place. date_at dates (place - first)) first given)
+    → ((earlier : List Seen) → y.stop ≡ last_stop earlier → z.stop ≡ last_stop (earlier ++ map (moved_seen first) given))
     → z.preambles ≡ y.preambles → Explains Told first held after to dates x z w w2
 explains_next Told first held after used to dates x y z w w1 w2 given h sees within below few tells alike stop preambles
     start since heard s =
     let date : ℕ → List ℕ = λ place. date_at dates (place - first) in
-    let same = counted_held y.preambles y.stop first held after date (recalled y.last) given few in
     stands_on (Told start since w1) (Told start since w2) y z date first (heard_with held after) used to (is_end after) heard given
-    (h start since heard s) sees within below (rw same at (tells start since)) alike stop preambles
+    (h start since heard s) sees within below
+    (λ earlier list is so.
+    rw (counted_held y.preambles first earlier held after date (recalled y.last) given few) at (tells earlier is start since list so))
+    alike stop preambles
 
 -- the search went on without a sighting
 pub explains_still : {T W : Type 0} (Told : ToldBetween T W) (first : ℕ) (held : List ℕ) (after : After) (used to : ℕ) (dates : Dates)
@@ -128,8 +131,8 @@ pub explains_still : {T W : Type 0} (Told : ToldBetween T W) (first : ℕ) (held
 explains_still Told first held after used to dates x y w w1 h sees within =
     explains_next Told first held after used to dates x y y w w1 w1 [] h sees within
     (All-nil (λ (s : Seen). seen_place s < length (heard_with held after))) (All-nil (λ (s : Seen). seen_place s ≤ length held))
-    (λ start since list so. rw append-nil so)
-    (alike_same (recalled y.last) (recalled y.last ++ []) (sym (append-nil (recalled y.last)))) refl refl
+    (λ earlier is start since list so. rw append-nil so)
+    (alike_same (recalled y.last) (recalled y.last ++ []) (sym (append-nil (recalled y.last)))) (λ earlier is. rw append-nil is) refl
 
 -- the decided sightings of what was held were told, and the rest is held
 pub hears_held : {T W : Type 0} (Told : ToldBetween T W) (old new : Listener) (after : After) (used : ℕ) (mid : Past) (w w1 : Moment T W)

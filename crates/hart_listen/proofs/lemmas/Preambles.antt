@@ -4,6 +4,7 @@ use Rattle.std.proofs.Common.{drop, take, refl, sym, Option, Some, ap, arith}
 use Rattle.std.proofs.Common.{inl, inr, append-nil, append_assoc, length-append, length-drop, replicate, reverse}
 use Rattle.std.proofs.Math.Seq.{take-add}
 use Rattle.std.proofs.lemmas.Bool.Decides.{nat_tests}
+use Rattle.std.proofs.lemmas.Grind.{flat_map-append}
 use Rattle.std.proofs.lemmas.List.{length-reverse, map-append, reverse-append, take-append-le, take_more}
 use Rattle.std.proofs.lemmas.List.Elements.{All-head, All-tail, All-weaker}
 use Rattle.std.proofs.lemmas.List.Sums.{prefix_len-le-length}
@@ -11,7 +12,7 @@ use Rattle.std.specs.List.{flat_map, prefix_len}
 use Rattle.hart_explain.specs.Message.{paragraph, sending_words}
 use Rattle.hart_explain.specs.Sighting.{seen_text}
 use Rattle.hart_explain.specs.declared.before.Before.{Before}
-use Rattle.std.specs.Prelude.{◌&&◌, ◌==◌, cond, get_or, min}
+use Rattle.std.specs.Prelude.{◌&&◌, ◌==◌, cond, get_or, min, slice_index}
 use Rattle.hart_frame.specs.declared.wire.kind.FrameKind.{FrameKind}
 use Rattle.hart_frame.specs.declared.wire.kind.FrameKind.TheVariants.{Ack, Stx}
 use Rattle.hart_frame.specs.heard.Character.{Character, faultless}
@@ -19,11 +20,11 @@ use Rattle.hart_frame.specs.heard.Miss.{is_preamble}
 use Rattle.hart_frame.specs.heard.Sighting.{Message, Missed, Seen}
 use Rattle.hart_text.specs.Heard.{Date, Heard, HeardChar, Silence, after_chars, stretches}
 use Rattle.hart_text.proofs.lemmas.Heard.{count}
-use Rattle.hart_listen.specs.Dated.{Dated, dated_after, words_of}
+use Rattle.hart_listen.specs.Dated.{Dated, dated_after, dated_one, words_of}
 use Rattle.hart_listen.specs.Gaps.{seen_place}
 use Rattle.hart_listen.specs.Listener.{total}
 use Rattle.hart_listen.specs.Preambles.{after_preambles, counted, counted_one, last_preambles, last_stop, own_preambles, preambles_in}
-use Rattle.hart_listen.specs.Preambles.{preambles_at, preambles_of, stop_after}
+use Rattle.hart_listen.specs.Preambles.{preambles_at, preambles_of, stop_after, stop_of}
 use Rattle.hart_listen.specs.Sightings.{date_of}
 use Rattle.hart_listen.proofs.lemmas.Dates.{date_before, same_within, total_count}
 use Rattle.hart_listen.proofs.lemmas.HeldDates.{before_or_not}
@@ -192,31 +193,40 @@ preambles_before heard more place below =
     ]
 
 -- sightings and later ones, counted, are both counted in one list
-pub counted_then : (preambles : ℕ → ℕ) (stop : ℕ) (told later : List Dated)
-    → counted preambles stop (told ++ later) ≡ counted preambles stop told ++ counted preambles (last_stop stop told) later
-counted_then preambles stop [] later = refl
-counted_then preambles stop (d ∷ told) later =
-    ap (λ xs. counted_one preambles stop d ∷ xs) (counted_then preambles (stop_after stop d.seen) told later)
+pub counted_then : (preambles : ℕ → ℕ) (date : ℕ → List ℕ) (earlier seen : List Seen) (later : List Dated)
+    → counted preambles earlier (dated_after date earlier seen ++ later)
+    ≡ counted preambles earlier (dated_after date earlier seen) ++ counted preambles (earlier ++ seen) later
+counted_then preambles date earlier [] later = ap (λ xs. counted preambles xs later) (sym (append-nil earlier))
+counted_then preambles date earlier (s ∷ seen) later =
+    let after = earlier ++ s ∷ [] in
+    ap (λ xs. counted_one preambles earlier (dated_one date earlier s) ∷ xs)
+    (counted_then preambles date after seen later
+    ∙ ap (λ xs. counted preambles after (dated_after date after seen) ++ counted preambles xs later) (append_assoc earlier (s ∷ []) seen))
 
-pub stop_then : (stop : ℕ) (told later : List Dated) → last_stop stop (told ++ later) ≡ last_stop (last_stop stop told) later
-stop_then stop [] later = refl
-stop_then stop (d ∷ told) later = stop_then (stop_after stop d.seen) told later
+-- the place after the last message, when one more sighting is seen
+pub stop_pushed : (earlier : List Seen) (s : Seen) → last_stop (earlier ++ s ∷ []) ≡ stop_after (last_stop earlier) s
+stop_pushed earlier (Message found) =
+    ap (λ xs. slice_index (reverse xs) 0) (flat_map-append stop_of earlier (Message found ∷ []))
+    ∙ ap (λ xs. slice_index xs 0) (reverse-append (flat_map stop_of earlier) (found.stop ∷ []))
+stop_pushed earlier (Missed place miss header) =
+    ap (λ xs. slice_index (reverse xs) 0)
+    (flat_map-append stop_of earlier (Missed place miss header ∷ []) ∙ append-nil (flat_map stop_of earlier))
 
 -- two ways of counting count the same before a sighting
 abbrev pub CountAlike : (f g : ℕ → ℕ) → Seen → Type 0
 CountAlike f g s = f (seen_place s) ≡ g (seen_place s)
 
-own_same : (f g : ℕ → ℕ) (stop : ℕ) (s : Seen) → CountAlike f g s → own_preambles f stop s ≡ own_preambles g stop s
-own_same f g stop (Message found) same = ap (λ n. Some (min n (found.start - stop))) same
-own_same f g stop (Missed place miss header) same = refl
+own_same : (f g : ℕ → ℕ) (before : List Seen) (s : Seen) → CountAlike f g s → own_preambles f before s ≡ own_preambles g before s
+own_same f g before (Message found) same = ap (λ n. Some (min n (found.start - last_stop before))) same
+own_same f g before (Missed place miss header) same = refl
 
-pub counted_same : (f g : ℕ → ℕ) (stop : ℕ) (date : ℕ → List ℕ) (earlier seen : List Seen) → All (CountAlike f g) seen
-    → counted f stop (dated_after date earlier seen) ≡ counted g stop (dated_after date earlier seen)
-counted_same f g stop date earlier [] same = refl
-counted_same f g stop date earlier (s ∷ seen) same =
+pub counted_same : (f g : ℕ → ℕ) (before : List Seen) (date : ℕ → List ℕ) (earlier seen : List Seen) → All (CountAlike f g) seen
+    → counted f before (dated_after date earlier seen) ≡ counted g before (dated_after date earlier seen)
+counted_same f g before date earlier [] same = refl
+counted_same f g before date earlier (s ∷ seen) same =
     let later =
-    counted_same f g (stop_after stop s) date (earlier ++ s ∷ []) seen (All-tail (CountAlike f g) s seen same) in
-    rw (own_same f g stop s (All-head (CountAlike f g) s seen same), later) refl
+    counted_same f g (before ++ s ∷ []) date (earlier ++ s ∷ []) seen (All-tail (CountAlike f g) s seen same) in
+    rw (own_same f g before s (All-head (CountAlike f g) s seen same), later) refl
 
 -- words say nothing of preamble bytes
 sending_same : (kind : FrameKind) (before : Before) (preambles : Option ℕ)
@@ -230,27 +240,27 @@ unfolding paragraph
 said_same before preambles (Message found) = rw (sending_same found.frame.kind before preambles) refl
 said_same before preambles (Missed place miss header) = refl
 
-pub words_same : (preambles : ℕ → ℕ) (stop : ℕ) (told : List Dated)
-    → flat_map words_of (counted preambles stop told) ≡ flat_map words_of told
-words_same preambles stop [] = refl
-words_same preambles stop (d ∷ told) =
-    rw (said_same d.before (own_preambles preambles stop d.seen) d.seen, words_same preambles (stop_after stop d.seen) told) refl
+pub words_same : (preambles : ℕ → ℕ) (earlier : List Seen) (told : List Dated)
+    → flat_map words_of (counted preambles earlier told) ≡ flat_map words_of told
+words_same preambles earlier [] = refl
+words_same preambles earlier (d ∷ told) =
+    rw (said_same d.before (own_preambles preambles earlier d.seen) d.seen, words_same preambles (earlier ++ d.seen ∷ []) told) refl
 
 -- sightings of what was heard keep their dates and their preamble bytes, whatever is heard later
-pub dates_stay : (heard more : List Heard) (seen : List Seen) → All (λ s. seen_place s < count heard) seen
+dates_stay : (heard more : List Heard) (seen : List Seen) → All (λ s. seen_place s < count heard) seen
     → dated_after (date_of heard) [] seen ≡ dated_after (date_of (heard ++ more)) [] seen
 dates_stay heard more seen within =
     same_within (date_of heard) (date_of (heard ++ more)) (count heard) (λ place below. sym (date_before [] heard more place below)) seen
     within
 
 pub counts_stay : (heard more : List Heard) (seen : List Seen) → All (λ s. seen_place s < count heard) seen
-    → counted (preambles_of heard) 0 (dated_after (date_of heard) [] seen)
-    ≡ counted (preambles_of (heard ++ more)) 0 (dated_after (date_of (heard ++ more)) [] seen)
+    → counted (preambles_of heard) [] (dated_after (date_of heard) [] seen)
+    ≡ counted (preambles_of (heard ++ more)) [] (dated_after (date_of (heard ++ more)) [] seen)
 counts_stay heard more seen within =
-    counted_same (preambles_of heard) (preambles_of (heard ++ more)) 0 (date_of heard) [] seen
+    counted_same (preambles_of heard) (preambles_of (heard ++ more)) [] (date_of heard) [] seen
     (All-weaker (λ (s : Seen). seen_place s < count heard) (CountAlike (preambles_of heard) (preambles_of (heard ++ more)))
     (λ s below. sym (preambles_before heard more (seen_place s) below)) seen within)
-    ∙ ap (counted (preambles_of (heard ++ more)) 0) (dates_stay heard more seen within)
+    ∙ ap (counted (preambles_of (heard ++ more)) []) (dates_stay heard more seen within)
 
 -- the preamble bytes right before a held character are those of its stretch
 pub held_preambles : (preambles : ℕ) (earlier : List (List Character)) (chars held : List Character) (base first k : ℕ)

@@ -20,14 +20,13 @@ use Rattle.hart_listen.specs.Preambles.{after_preambles, counted, last_preambles
 use Rattle.hart_listen.specs.Sightings.{AreSightingsFrom, AreSightingsOf, ComeFirst, date_of}
 use Rattle.hart_listen.specs.declared.listener.Listener.{Listener}
 use Rattle.hart_listen.specs.declared.past.Past.{Past}
-use Rattle.hart_listen.proofs.lemmas.Dated.{alike_same, alike_then, dated_more}
+use Rattle.hart_listen.proofs.lemmas.Dated.{alike_same, alike_then, dated_more, told_more}
 use Rattle.hart_listen.proofs.lemmas.Dates.{all_first, date_before, date_chars, date_later, date_silence, moved_place, same_from}
 use Rattle.hart_listen.proofs.lemmas.Dates.{stretches_within, total_count}
 use Rattle.hart_listen.proofs.lemmas.HeldDates.{before_or_not}
 use Rattle.hart_listen.proofs.lemmas.InStretches.{after_nothing, after_twice, one_seen, one_stretch, seen_on, some_seen}
 use Rattle.hart_listen.proofs.lemmas.InStretches.{stretches_chars, total_on}
-use Rattle.hart_listen.proofs.lemmas.Preambles.{CountAlike, counted_same, counted_then, counts_stay, dates_stay, held_preambles}
-use Rattle.hart_listen.proofs.lemmas.Preambles.{kept_before, stop_then}
+use Rattle.hart_listen.proofs.lemmas.Preambles.{CountAlike, counted_same, counted_then, counts_stay, held_preambles, kept_before}
 use Rattle.hart_listen.proofs.lemmas.Sightings.{at_end, sees_rest}
 
 -- adding nothing changes no number
@@ -77,11 +76,11 @@ stands_preambles Told past date first held used ended heard s seen below =
 pub stands_on : (Told After : List Dated → Type 0) (x y : Past) (date : ℕ → List ℕ) (first : ℕ) (held : List Character)
     (used to : ℕ) (ended : Bool) (heard : List Heard) (given : List Seen) → Stands Told x date first held used ended heard
     → SeesOn held ended used given to → to ≤ length held → All (λ s. seen_place s < length held) given
-    → ((list : List Dated) → Told list
-    → After (list ++ counted (preambles_at x.preambles first held) x.stop (dated_from x.last date first given)))
+    → ((earlier : List Seen) (list : List Dated) → x.stop ≡ last_stop earlier → Told list
+    → After (list ++ counted (preambles_at x.preambles first held) earlier (dated_from x.last date first given)))
     → AreAlike (recalled y.last) (recalled x.last ++ map (moved_seen first) given)
-    → y.stop ≡ last_stop x.stop (dated_from x.last date first given) → y.preambles ≡ x.preambles
-    → Stands After y date first held to ended heard
+    → ((earlier : List Seen) → x.stop ≡ last_stop earlier → y.stop ≡ last_stop (earlier ++ map (moved_seen first) given))
+    → y.preambles ≡ x.preambles → Stands After y date first held to ended heard
 stands_on Told After x y date first held used to ended heard given s sees within below tells alike stop preambles =
     let place = total s.earlier in
     let begun = s.before ++ map (moved_seen place) s.seen in
@@ -92,19 +91,18 @@ stands_on Told After x y date first held used to ended heard given s sees within
     let all : old ++ next ≡ dated_after (date_of heard) [] whole =
     ap (λ at. old ++ dated_from x.last (date_of heard) at given) s.first_is
     ∙ dated_more x.last (date_of heard) s.before s.seen given place s.base s.alike in
-    let counts : counted (preambles_at x.preambles first held) x.stop (dated_from x.last date first given)
-    ≡ counted (preambles_of heard) x.stop next =
-    ap (counted (preambles_at x.preambles first held) x.stop) given_is
-    ∙ sym (counted_same (preambles_of heard) (preambles_at x.preambles first held) x.stop (date_of heard) (recalled x.last)
+    let counts : counted (preambles_at x.preambles first held) begun (dated_from x.last date first given)
+    ≡ counted (preambles_of heard) begun next =
+    ap (counted (preambles_at x.preambles first held) begun) given_is
+    ∙ sym (counted_same (preambles_of heard) (preambles_at x.preambles first held) begun (date_of heard) (recalled x.last)
     (map (moved_seen first) given)
     (All-map (CountAlike (preambles_of heard) (preambles_at x.preambles first held)) (moved_seen first) given
     (All-weaker (λ (s : Seen). seen_place s < length held)
     (λ one. CountAlike (preambles_of heard) (preambles_at x.preambles first held) (moved_seen first one))
     (λ one. stands_preambles Told x date first held used ended heard s one) given below))) in
-    let told : counted (preambles_of heard) 0 old ++ counted (preambles_of heard) x.stop next
-    ≡ counted (preambles_of heard) 0 (dated_after (date_of heard) [] whole) =
-    ap (λ at. counted (preambles_of heard) 0 old ++ counted (preambles_of heard) at next) s.stop
-    ∙ (sym (counted_then (preambles_of heard) 0 old next) ∙ ap (counted (preambles_of heard) 0) all) in
+    let told : counted (preambles_of heard) [] old ++ counted (preambles_of heard) begun next
+    ≡ counted (preambles_of heard) [] (dated_after (date_of heard) [] whole) =
+    sym (counted_then (preambles_of heard) (date_of heard) [] begun next) ∙ ap (counted (preambles_of heard) []) all in
     record {
       earlier = s.earlier;
       chars = s.chars;
@@ -121,10 +119,11 @@ stands_on Told After x y date first held used to ended heard given s sees within
       within = within;
       dates = s.dates;
       alike = alike_then s.before (recalled x.last) (recalled y.last) place s.base s.seen given s.alike (rw s.first_is at alike);
-      stop = stop ∙ (ap (last_stop x.stop) given_is ∙ (ap (λ at. last_stop at next) s.stop ∙ (sym (stop_then 0 old next)
-          ∙ ap (last_stop 0) all)));
+      stop = stop begun s.stop
+          ∙ (ap (λ at. last_stop (begun ++ map (moved_seen at) given)) s.first_is
+          ∙ ap last_stop (told_more s.before s.seen given place s.base));
       preambles = preambles ∙ s.preambles;
-      told = rw (counts, told) at (tells _ s.told);
+      told = rw (counts, told) at (tells begun _ s.stop s.told);
     }
 
 -- what was told stands in another form, too
@@ -133,8 +132,9 @@ pub stands_told : (Told After : List Dated → Type 0) (past : Past) (date : ℕ
     → ((list : List Dated) → Told list → After list) → Stands After past date first held used ended heard
 stands_told Told After past date first held used ended heard s also =
     stands_on Told After past past date first held used used ended heard [] s (λ more later closed are. are) s.within
-    (All-nil (λ (s : Seen). seen_place s < length held)) (λ list told. rw append-nil (also list told))
-    (alike_same (recalled past.last) (recalled past.last ++ []) (sym (append-nil (recalled past.last)))) refl refl
+    (All-nil (λ (s : Seen). seen_place s < length held)) (λ earlier list is told. rw append-nil (also list told))
+    (alike_same (recalled past.last) (recalled past.last ++ []) (sym (append-nil (recalled past.last))))
+    (λ earlier is. rw append-nil is) refl
 
 -- the characters that were let go and the held ones are all that were heard
 pub stands_count : (Told : List Dated → Type 0) (past : Past) (date : ℕ → List ℕ) (first : ℕ) (held : List Character) (used : ℕ)
@@ -240,7 +240,7 @@ stands_more Told past date first held used ended heard xs s = record {
   within = omega (arith, s.within, length-append held xs);
   dates = λ place from. s.dates place from ∙ sym (date_chars [] heard xs place);
   alike = s.alike;
-  stop = rw (dates_stay heard (heard_chars xs) _ (told_within Told past date first held used heard s)) at s.stop;
+  stop = s.stop;
   preambles = s.preambles ∙ ap last_preambles (sym (take-append-le s.base s.chars xs s.within_chars));
   told = rw (counts_stay heard (heard_chars xs) _ (told_within Told past date first held used heard s)) at s.told;
 }
@@ -301,7 +301,7 @@ stands_silence Told past date first heard s =
       within = omega arith;
       dates = λ place from. s.dates place from ∙ sym (date_silence [] heard place);
       alike = rw (append-nil _) s.alike;
-      stop = rw (append-nil _) (rw (dates_stay heard (Silence ∷ []) _ within) at s.stop);
+      stop = rw (append-nil _) s.stop;
       preambles = refl;
       told = rw (append-nil _) (rw (counts_stay heard (Silence ∷ []) _ within) at s.told);
     }
@@ -335,7 +335,7 @@ stands_date Told past date after first held used heard word s earlier later =
         | inr beyond ↦ later place (omega (arith, beyond, long)) ∙ sym (date_later [] heard word place beyond)
       ];
       alike = s.alike;
-      stop = rw (dates_stay heard (Date word ∷ []) _ within) at s.stop;
+      stop = s.stop;
       preambles = s.preambles;
       told = rw (counts_stay heard (Date word ∷ []) _ within) at s.told;
     }

@@ -50,7 +50,7 @@ pub heard_grows : (style : Style) (heard more : List Heard) (told whole : List �
     → IsTextIn style (heard ++ more) whole → (rest : List ℕ) × (whole ≡ told ++ rest)
 heard_grows style heard more told whole decided is =
     let (rest, grown) = dated_grows heard more decided.seen is.seen decided.decided is.are_sightings in
-    let begun = counted (preambles_of heard) 0 (dated_after (date_of heard) [] decided.seen) in
+    let begun = counted (preambles_of heard) [] (dated_after (date_of heard) [] decided.seen) in
     let begins = flat_map-append (text_of style) begun rest in
     let after = flat_map (text_of style) rest in
     (after, is.text_is ∙ (ap (flat_map (text_of style)) grown ∙ (begins ∙ ap (λ xs. xs ++ after) (sym decided.text_is))))

@@ -6,7 +6,7 @@ use Rattle.hart_text.specs.Heard.{Heard}
 use Rattle.hart_listen.specs.Dated.{Dated, dated_after}
 use Rattle.hart_listen.specs.Dates.{date_from}
 use Rattle.hart_listen.specs.Listener.{IsNew, IsWaiting, StandsFor, total}
-use Rattle.hart_listen.specs.Preambles.{counted, last_stop, preambles_of}
+use Rattle.hart_listen.specs.Preambles.{counted, preambles_of}
 use Rattle.hart_listen.specs.Sightings.{date_of}
 use Rattle.hart_listen.specs.declared.listener.Listener.{Listener}
 use Rattle.hart_listen.proofs.lemmas.Listener.{told_decided}
@@ -78,17 +78,17 @@ prints_whole style start since l p heard w s =
     let begun = s.before ++ map (moved_seen (total s.earlier)) s.seen in
     let first = dated_after (date_of heard) [] begun in
     let next = dated_after (date_of heard) begun later in
-    let rest = counted (preambles_of heard) (last_stop 0 first) next in
-    let all : counted (preambles_of heard) 0 (dated_after (date_of heard) [] (begun ++ later))
-    ≡ counted (preambles_of heard) 0 first ++ rest =
-    ap (counted (preambles_of heard) 0) (dated_then (date_of heard) [] begun later)
-    ∙ counted_then (preambles_of heard) 0 first next in (
+    let rest = counted (preambles_of heard) begun next in
+    let all : counted (preambles_of heard) [] (dated_after (date_of heard) [] (begun ++ later))
+    ≡ counted (preambles_of heard) [] first ++ rest =
+    ap (counted (preambles_of heard) []) (dated_then (date_of heard) [] begun later)
+    ∙ counted_then (preambles_of heard) (date_of heard) [] begun next in (
       flat_map (text_of style) rest,
       record {
         seen = begun ++ later;
         are_sightings = are;
         text_is = sym (ap (flat_map (text_of style)) all
-            ∙ flat_map-append (text_of style) (counted (preambles_of heard) 0 first) rest);
+            ∙ flat_map-append (text_of style) (counted (preambles_of heard) [] first) rest);
       },
     )
 

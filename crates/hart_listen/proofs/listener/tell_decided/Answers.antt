@@ -1,14 +1,16 @@
-use Rattle.std.proofs.Common.{◌≤◌, ◌<◌, ◌∷◌, ◌+◌, ◌∙◌, ℕ, All, List, [], arith, length, refl}
+use Rattle.std.proofs.Common.{◌≤◌, ◌<◌, ◌∷◌, ◌+◌, ◌∙◌, ℕ, All, List, [], ap, arith, length, refl, sym}
 use Rattle.std.proofs.lemmas.List.Elements.{All-cons, All-nil}
 use Rattle.hart_frame.specs.declared.scan.sighting.After.{After}
 use Rattle.hart_frame.specs.declared.scan.sighting.Sighting.{Sighting}
 use Rattle.hart_frame.specs.declared.scan.sighting.Sighting.TheVariants.{Message, Missed}
-use Rattle.hart_frame.specs.heard.Sighting.{Seen}
+use Rattle.hart_frame.specs.heard.Sighting.{Seen, moved_seen}
 use Rattle.hart_frame.specs.scan.Sighting.{EndsAt, heard_with, seen_of}
 use Rattle.hart_listen.specs.Gaps.{seen_place}
+use Rattle.hart_listen.specs.Preambles.{stop_after}
 use Rattle.hart_listen.proofs.lemmas.Before.{own_more}
 use Rattle.hart_listen.proofs.lemmas.Held.{heard_few}
 use Rattle.hart_listen.proofs.lemmas.Listener.{explains_next, explains_nothing, explains_still}
+use Rattle.hart_listen.proofs.lemmas.Preambles.{stop_pushed}
 use Rattle.hart_listen.proofs.lemmas.Stands.{plus_zero}
 use Rattle.hart_listen.proofs.listener.tell_decided.Goals as goal
 
@@ -79,12 +81,14 @@ loop-sighting-preserved g c =
     let next = c.next_after-next.ensures in
     let told = c.tell_sighting.ensures in
     let loop = c.loop-sighting in
+    let seen = moved_seen c.args.first (seen_of c.in-Some.sighting) in
     record {
       explains = explains_next g.T.Teller.told _ _ _ loop.used _ c.args.dates.now _ loop.past c.tell_sighting.new.past _ _ _
           (seen_of c.in-Some.sighting ∷ []) loop.invariant.explains (rw c.in-Some.is at next.sees) next.within
           (below_all c.in-Some.sighting _ _ next.within (rw c.in-Some.is at next.places))
           (in_held_all _ _ c.in-Some.sighting _ next.within (rw c.in-Some.is at next.places))
-          told.tells told.alike told.stop told.preambles;
+          told.tells told.alike
+          (λ earlier is. told.stop ∙ (ap (λ stop. stop_after stop seen) is ∙ sym (stop_pushed earlier seen))) told.preambles;
       own = own_more (c.args.first + loop.used + 1) _ _ (omega (arith, rw c.in-Some.is at next.further))
           (told.own (c.args.first + loop.used) loop.invariant.own);
       preambles = told.preambles ∙ loop.invariant.preambles;

@@ -11,7 +11,7 @@ place-is first (Message found) = omega arith
 place-is first (Missed place miss header) = omega arith
 
 pub returns-clause-tells : goal.returns-clause-tells
-returns-clause-tells g c =
+returns-clause-tells g c earlier is =
     let place = c.place_of.ensures ∙ sym (place-is c.args.first (seen_of c.args.sighting.now)) in
     let word = c.word_at-date.ensures.word ∙ ap (date_at c.args.dates.now) place in
-    rw (word, c.hear-before.ensures.before) at c.tell.ensures
+    rw (word, c.hear-before.ensures.before earlier is) at c.tell.ensures

@@ -40,7 +40,7 @@ of_one_hearing input ending xs ys heard fault lines text same is dump said has =
     let frames : dump.frames ≡ seen.frames =
     frames_are_unambiguous-one_list ys 0 dump.frames seen.frames (rw same at dump.are_frames) seen.are_frames in
     let all : said.seen ≡ parts.0 = parts.4 ∙ (ap (λ zs. map (moved_seen 0) parts.0 ++ zs) parts.3 ∙ (append-nil _ ∙ moved_none parts.0)) in
-    let words = words_same (preambles_of heard) 0 _ in
+    let words = words_same (preambles_of heard) [] _ in
     let bare = ap (flat_map words_of) (same_dates (date_of heard) undated (rw is (no_date ys)) said.seen) in
     record {
       chars = ys;

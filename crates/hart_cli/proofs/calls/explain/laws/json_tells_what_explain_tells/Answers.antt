@@ -26,7 +26,7 @@ one_telling decoding input ending xs ys fault text lines same has p q =
       has = has;
       seen = q.seen;
       are_sightings = q.are_sightings;
-      text_is = p.text_is ∙ (words_same (preambles_of xs) 0 _ ∙ (ap (λ heard. explanation (date_of heard) [] p.seen) same
+      text_is = p.text_is ∙ (words_same (preambles_of xs) [] _ ∙ (ap (λ heard. explanation (date_of heard) [] p.seen) same
           ∙ ap (explanation (date_of ys) []) seen));
       lines_are = q.text_is;
     }
@@ -39,4 +39,4 @@ returns-clause-told c is_raw input ending f g text lines p q =
 pub returns-clause-decided : goal.returns-clause-decided
 returns-clause-decided c heard text lines a b =
     let seen = one_decided heard a.seen b.seen a.decided b.decided in
-    (b.seen, b.decided.first, a.text_is ∙ (words_same (preambles_of heard) 0 _ ∙ ap (explanation (date_of heard) []) seen), b.text_is)
+    (b.seen, b.decided.first, a.text_is ∙ (words_same (preambles_of heard) [] _ ∙ ap (explanation (date_of heard) []) seen), b.text_is)
