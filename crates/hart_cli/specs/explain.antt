@@ -1,7 +1,4 @@
 -- `hart explain`.
 pub mod Explanation
-pub mod Explain
-pub mod Dumped
-pub mod Told
-pub mod Page
+pub mod Same
 pub mod Printer

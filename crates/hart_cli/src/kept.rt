@@ -1,6 +1,6 @@
 //! Text that is kept until it is written.
 ghost use Rattle.std.specs.Prelude.{[], OnOk};
-ghost use Rattle.hart_cli.specs.stream.Kept.{HasRoomFor, Tells};
+ghost use Rattle.hart_cli.specs.stream.Kept.{AddsUnlessFailed, HasRoomFor};
 
 use crate::output::write_all;
 use crate::stream::{Failed, Sink};
@@ -21,7 +21,7 @@ pub type Kept = Text;
 ///
 /// `Failed` if a write fails.
 pub fn make_room<W: Sink>(writer: &mut W, kept: &mut Kept) -> Result<(), Failed>
-    ensures tells { Tells (W.stream writer.old) (W.stream writer.new) kept.old kept.new [] result }
+    ensures adds { AddsUnlessFailed (W.stream writer.old) (W.stream writer.new) kept.old kept.new [] result }
     ensures room { OnOk result (HasRoomFor 16384 kept.new) }
 {
     if kept.len() > KEPT_LEN - PIECE_LEN {

@@ -54,9 +54,9 @@ pub use calls::request::request;
 pub use calls::serve::{one_service, serve};
 pub use calls::sim::{one_simulation, simulate};
 pub use fault::CliFault;
+pub use hart_explain::laws::json_objects_are_lines;
 pub use hart_listen::laws::{
     every_start_outside_messages_has_one_line, hints_of_explanations_are_right,
-    json_objects_are_lines,
 };
 pub use hart_request::laws::{shown_values_are_accepted, values_are_shown_as_given};
 pub use hart_request::{BadField, FieldFault};

@@ -4,6 +4,7 @@ pub mod Laws
 pub mod HexText
 pub mod Rows
 pub mod Json
+pub mod OneLine
 pub mod Bounded
 pub mod Lengths
 pub mod JsonLengths

@@ -1,11 +1,8 @@
 -- Lemmas.
 pub mod Gaps
 pub mod OnePreamble
-pub mod OneLine
-pub mod Header
 pub mod Seems
 pub mod Sightings
-pub mod Decided
 pub mod Dates
 pub mod InStretches
 pub mod Same
@@ -14,6 +11,7 @@ pub mod Dated
 pub mod Preambles
 pub mod Held
 pub mod Stands
+pub mod Decided
 pub mod Listener
-pub mod Grow
 pub mod HeldDates
+pub mod Laws

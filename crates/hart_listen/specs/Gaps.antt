@@ -1,5 +1,5 @@
 -- The gaps between messages, and the places in them where a message seems to start (implementation choice).
-use Rattle.std.specs.Prelude.{◌≡◌, ◌≢◌, ◌≤◌, ◌<◌, ◌+◌, ◌⊎◌, ◌++◌, [], ◌∷◌, ℕ, All, Contains, List, Some, length, slice_get}
+use Rattle.std.specs.Prelude.{◌≡◌, ◌≤◌, ◌<◌, ◌+◌, ◌⊎◌, [], ◌∷◌, ℕ, All, Contains, List, Some, length, slice_get}
 use Rattle.hart_frame.specs.heard.Character.{Character}
 use Rattle.hart_frame.specs.heard.Sighting.{Message, Missed, Seen}
 use Rattle.hart_frame.specs.declared.heard.found.Found.{Found}
@@ -25,9 +25,3 @@ pub record HasOnePreamble (chars : List Character) (frames : List Found) (place 
 abbrev pub seen_place : Seen → ℕ
 seen_place (Message found) = found.start
 seen_place (Missed place miss header) = place
-
--- A text is one line if it ends with a line feed and has no other.
-pub record IsOneLine (text : List ℕ) : Type 0 where
-  pub words : List ℕ
-  pub ended : text ≡ words ++ 10 ∷ []
-  pub unbroken : All (λ code. code ≢ 10) words

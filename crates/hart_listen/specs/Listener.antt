@@ -11,21 +11,12 @@ use Rattle.hart_listen.specs.Before.{AreAlike}
 use Rattle.hart_listen.specs.Dated.{Dated, dated_after}
 use Rattle.hart_listen.specs.Dates.{date_at, date_from}
 use Rattle.hart_listen.specs.LastMessages.{KeepsOwn, LastMessages, recalled}
-use Rattle.hart_listen.specs.Past.{no_past}
-use Rattle.hart_listen.specs.Preambles.{counted, last_preambles, last_stop, preambles_of}
+use Rattle.hart_listen.specs.Preambles.{last_preambles, last_stop, told_of}
 use Rattle.hart_listen.specs.Sightings.{AreSightingsFrom, date_of}
 use Rattle.hart_listen.specs.Teller.{Moment, ToldBetween}
 use Rattle.hart_listen.specs.declared.dates.Dates.{Dates}
 use Rattle.hart_listen.specs.declared.listener.Listener.{Listener}
 use Rattle.hart_listen.specs.declared.past.Past.{Past}
-
--- Nothing was heard yet.
-pub record IsNew (listener : Listener) : Type 0 where
-  pub first : listener.first ≡ 0
-  pub held : listener.held ≡ []
-  pub dated : listener.dates.held.items ≡ []
-  pub undated : (place : ℕ) → date_from listener place ≡ []
-  pub no_past : listener.past ≡ no_past
 
 -- Held characters are waiting if no sighting in them is decided until more is heard. At most 268 characters are held then, each with its
 -- date.
@@ -64,13 +55,16 @@ pub record Stands (Told : List Dated → Type 0) (past : Past) (date : ℕ → L
   pub alike : AreAlike (recalled past.last) (before ++ map (moved_seen (total earlier)) seen)
   pub stop : past.stop ≡ last_stop (before ++ map (moved_seen (total earlier)) seen)
   pub preambles : past.preambles ≡ last_preambles (take base chars)
-  pub told : Told
-      (counted (preambles_of heard) [] (dated_after (date_of heard) [] (before ++ map (moved_seen (total earlier)) seen)))
+  pub told : Told (told_of heard (before ++ map (moved_seen (total earlier)) seen))
 
 -- All that was heard is told as far as it is decided, and the rest is held.
 abbrev pub StandsFor : (List Dated → Type 0) → Bool → Listener → List Heard → Type 0
 StandsFor Told ended listener heard =
     Stands Told listener.past (date_from listener) listener.first (faultless listener.held) 0 ended heard
+
+-- All that was heard is told as far as it is decided, in this list of dated sightings, and the rest is held.
+abbrev pub HasTold : Bool → Listener → List Heard → List Dated → Type 0
+HasTold ended listener heard list = StandsFor (λ told. told ≡ list) ended listener heard
 
 -- Whatever was heard before, `more` was heard after it, and all that was decided then was told. If `ended` is true, nothing comes after it
 -- in its stretch.

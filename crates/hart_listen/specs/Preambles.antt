@@ -1,12 +1,13 @@
 -- How many preamble bytes stand right before a message (implementation choice).
-use Rattle.std.specs.Prelude.{◌-◌, ◌++◌, ℕ, List, [], ◌∷◌, Option, None, Some, if◌then◌else◌, length, min, nat_le, nat_lt, replicate, reverse}
-use Rattle.std.specs.Prelude.{slice_index, take}
+use Rattle.std.specs.Prelude.{◌-◌, ◌++◌, ℕ, List, [], ◌∷◌, Option, None, Some, if◌then◌else◌, length, min, nat_le, nat_lt, replicate}
+use Rattle.std.specs.Prelude.{reverse, slice_index, take}
 use Rattle.std.specs.List.{flat_map, suffix_len}
 use Rattle.hart_frame.specs.heard.Character.{Character, faultless}
 use Rattle.hart_frame.specs.heard.Miss.{is_preamble}
 use Rattle.hart_frame.specs.heard.Sighting.{Message, Missed, Seen}
 use Rattle.hart_text.specs.Heard.{Heard, stretches}
 use Rattle.hart_listen.specs.Dated.{Dated, dated_after, line_of}
+use Rattle.hart_listen.specs.Sightings.{date_of}
 
 -- How many intact preamble bytes FF characters end with.
 abbrev pub last_preambles : List Character → ℕ
@@ -47,9 +48,14 @@ abbrev pub counted : (ℕ → ℕ) → List Seen → List Dated → List Dated
 counted preambles earlier [] = []
 counted preambles earlier (told ∷ later) = counted_one preambles earlier told ∷ counted preambles (earlier ++ told.seen ∷ []) later
 
--- The JSON lines of sightings, with their dates and their preamble bytes.
-abbrev pub object_lines : (ℕ → List ℕ) → (ℕ → ℕ) → List Seen → List ℕ
-object_lines date preambles seen = flat_map line_of (counted preambles [] (dated_after date [] seen))
+-- What is told of sightings of what was heard: each with its date, with what the sightings before it say of it, and with the number of its
+-- preamble bytes.
+abbrev pub told_of : List Heard → List Seen → List Dated
+told_of heard seen = counted (preambles_of heard) [] (dated_after (date_of heard) [] seen)
+
+-- The JSON lines of sightings of what was heard.
+abbrev pub object_lines : List Heard → List Seen → List ℕ
+object_lines heard seen = flat_map line_of (told_of heard seen)
 
 -- Only private calls use the definitions from here on.
 

@@ -1,12 +1,15 @@
-//! What an explanation says, and what it does not say.
-ghost use Rattle.std.specs.Prelude.{◌≡◌, ◌+◌, ◌-◌, ◌<◌, ◌≤◌, ◌↔◌, ◌⊎◌, ◌++◌, ◌∷◌, [], ℕ, false, List, All, AllPairs, Contains, IsSome};
+//! Laws: what a listener tells, and what an explanation of it says.
+ghost use Rattle.std.specs.Prelude.{◌≡◌, ◌+◌, ◌-◌, ◌*◌, ◌<◌, ◌≤◌, ◌↔◌, ◌⊎◌, ◌++◌, ◌∷◌, [], ℕ, Bool, false, true, List, All, AllPairs};
+ghost use Rattle.std.specs.Prelude.{Contains, IsSome};
 ghost use Rattle.std.specs.Prelude.{Option, Some};
 ghost use Rattle.std.specs.Prelude.{drop, length, option_map, set, take};
+ghost use Rattle.std.specs.List.{flat_map};
 ghost use Rattle.hart_frame.specs.heard.Character.{Character, faultless};
 ghost use Rattle.hart_frame.specs.heard.Frames.{AreFrames};
 ghost use Rattle.hart_frame.specs.heard.InTheWay.{HasBodyAt, HasFaultsAt, IsInTheWay, bytes_from};
 ghost use Rattle.hart_frame.specs.heard.Place.{HasFrameUpTo};
-ghost use Rattle.hart_frame.specs.heard.Sighting.{Message, Missed, Seen, header_at, miss_in_whole, missed, seen_miss, sightings};
+ghost use Rattle.hart_frame.specs.heard.Sighting.{AreSightings, Message, Missed, Seen, header_at, miss_in_whole, missed, seen_miss};
+ghost use Rattle.hart_frame.specs.heard.Sighting.{sightings};
 ghost use Rattle.hart_frame.specs.heard.Sighting.{two_begin_in_body};
 ghost use Rattle.hart_frame.specs.heard.Place.{IsStart};
 ghost use Rattle.hart_frame.specs.declared.heard.found.Found.{Found};
@@ -15,22 +18,78 @@ ghost use Rattle.hart_frame.specs.declared.heard.miss.Miss.TheVariants.{BadCheck
 ghost use Rattle.hart_frame.specs.wire.Header.{HeaderParts, header_of};
 ghost use Rattle.hart_frame.specs.wire.Layout.{command_place};
 ghost use Rattle.hart_frame.specs.wire.Parity.{IsCheckByte};
-ghost use Rattle.hart_text.specs.Heard.{IsDateWord};
+ghost use Rattle.hart_text.specs.Heard.{Heard, IsDateWord, ReadsHeard, heard_chars};
 ghost use Rattle.hart_listen.specs.Before.{before_of};
-ghost use Rattle.hart_listen.specs.Dated.{explanation};
-ghost use Rattle.hart_listen.specs.Gaps.{HasOnePreamble, IsGap, IsOneLine, seen_place};
+ghost use Rattle.hart_listen.specs.Dated.{Dated, explanation, words_of};
+ghost use Rattle.hart_listen.specs.Gaps.{HasOnePreamble, IsGap, seen_place};
+ghost use Rattle.hart_listen.specs.Listener.{HasTold, Hears, IsWaiting};
+ghost use Rattle.hart_listen.specs.Preambles.{told_of};
+ghost use Rattle.hart_listen.specs.Sightings.{AreDecided, AreSightingsOf, date_of, undated};
+ghost use Rattle.hart_listen.specs.Teller.{Moment};
+ghost use Rattle.hart_listen.specs.declared.listener.Listener.{Listener};
 ghost use Rattle.hart_explain.specs.Message.{paragraph};
 ghost use Rattle.hart_explain.specs.Miss.{miss_line, seems_line};
-ghost use Rattle.hart_explain.specs.Sighting.{date_words, json_line};
-ghost use Rattle.hart_explain.specs.declared.before.Before.{Before};
+ghost use Rattle.hart_explain.specs.Sighting.{date_words};
+ghost use Rattle.hart_explain.specs.Text.{IsOneLine};
 
+use crate::teller::Teller;
+use hart_explain::laws::misses_are_lines;
 use hart_frame::laws::{
     every_start_has_a_frame_or_a_miss, misses_are_in_the_way, misses_say_what_is_wrong,
 };
 
-/// Each object of JSON is one line: its text ends with a line feed and has no other.
-pub fn json_objects_are_lines()
-    ensures { (date : List ℕ) (before : Before) (seen : Seen) → IsOneLine (json_line date before seen) }
+/// A listener tells each sighting as soon as it is decided, with its date, with what the messages before it say of it, and with the number
+/// of its preamble bytes.
+///
+/// A listener that waits for more has told the decided sightings. At the end of what is heard, it has told all sightings. Each character of
+/// a text takes at least two bytes, so the places of what is held fit in 64 bits.
+pub fn listeners_tell_all_sightings()
+    ensures decided { (listener : Listener) (heard : List Heard) (list : List Dated)
+        → HasTold false listener heard list → IsWaiting listener
+        → (seen : List Seen) × AreDecided heard seen × (list ≡ told_of heard seen) }
+    ensures all { (listener : Listener) (heard : List Heard) (list : List Dated)
+        → HasTold true listener heard list → listener.held ≡ []
+        → (seen : List Seen) × AreSightingsOf heard seen × (list ≡ told_of heard seen) }
+    ensures places { (listener : Listener) (heard : List Heard) (list : List Dated) (text rest : List ℕ)
+        → HasTold false listener heard list → ReadsHeard text heard rest
+        → 2 * (listener.first + length listener.held) + length rest ≤ length text }
+{}
+
+/// What a call of a listener tells is told to its teller: if the teller was told all that the listener told before the call, it is told all
+/// that the listener told after the call.
+pub fn tellers_are_told_what_is_heard<W, T: Teller<W>>()
+    ensures { (old new : Listener) (more : List Heard) (ended : Bool) (before after : Moment T W)
+        → Hears T.told old new more ended before after
+        → (start since : Moment T W) (heard : List Heard) (list : List Dated)
+        → HasTold false old heard list → T.told start since before list
+        → (all : List Dated) × HasTold ended new (heard ++ more) all × T.told start since after all }
+{}
+
+/// What was heard has exactly one list of sightings, and decides at most one.
+pub fn heard_sightings_are_unambiguous()
+    ensures one { (heard : List Heard) (xs ys : List Seen) → AreSightingsOf heard xs → AreSightingsOf heard ys → xs ≡ ys }
+    ensures some { (heard : List Heard) → (seen : List Seen) × AreSightingsOf heard seen }
+    ensures decided { (heard : List Heard) (xs ys : List Seen) → AreDecided heard xs → AreDecided heard ys → xs ≡ ys }
+{}
+
+/// Whatever is heard next, the sightings decided so far are the first ones of all, and what is told of them stays the same.
+#[tactic(auto, using(crate::proofs::lemmas::Laws::told_sightings_stay))]
+pub fn told_sightings_stay()
+    ensures { (heard more : List Heard) (seen all : List Seen) → AreDecided heard seen → AreSightingsOf (heard ++ more) all
+        → (rest : List Dated) × (told_of (heard ++ more) all ≡ told_of heard seen ++ rest) }
+{}
+
+/// The words of what is told are the explanation of the sightings: words say nothing of preamble bytes.
+#[tactic(auto, using(crate::proofs::lemmas::Laws::words_leave_out_preamble_bytes))]
+pub fn words_leave_out_preamble_bytes()
+    ensures { (heard : List Heard) (seen : List Seen) → flat_map words_of (told_of heard seen) ≡ explanation (date_of heard) [] seen }
+{}
+
+/// Characters without silences and dates are one stretch, and their explanation has no dates.
+pub fn characters_are_one_stretch()
+    ensures sightings { (chars : List Character) (seen : List Seen) → AreSightingsOf (heard_chars chars) seen → AreSightings chars 0 seen }
+    ensures undated { (chars : List Character) (seen : List Seen)
+        → explanation (date_of (heard_chars chars)) [] seen ≡ explanation undated [] seen }
 {}
 
 /// An explanation has three parts: the lines about the places before the first message, the date and the paragraph of that message, and the
@@ -65,8 +124,9 @@ pub fn every_start_outside_messages_has_one_line()
     ensures only_there { (chars : List Character) (from stop place : ℕ) (miss : Miss) (header : Option HeaderParts)
         → Contains (missed chars from stop) (Missed place miss header) → IsStart (place - from) (drop from chars) ⊎ (miss ≡ OnePreamble) }
 {
-    // This call does nothing: only its contract is needed.
+    // These calls do nothing: only their contracts are needed.
     every_start_has_a_frame_or_a_miss();
+    misses_are_lines();
 }
 
 /// Each line of a gap says correctly why no message stands at its place.

@@ -13,7 +13,7 @@ ghost use Rattle.hart_listen.specs.Before.{AreAlike};
 ghost use Rattle.hart_listen.specs.Dates.{date_at};
 ghost use Rattle.hart_listen.specs.Gaps.{seen_place};
 ghost use Rattle.hart_listen.specs.LastMessages.{KeepsOwn, recalled};
-ghost use Rattle.hart_listen.specs.Listener.{DecidesNoMore, Explains, Hears, HearsText, IsNew, IsNextSighting, IsWaiting, chars_after};
+ghost use Rattle.hart_listen.specs.Listener.{DecidesNoMore, Explains, HasTold, Hears, HearsText, IsNextSighting, IsWaiting, chars_after};
 ghost use Rattle.hart_listen.specs.Listener.{dated_from};
 ghost use Rattle.hart_listen.specs.Preambles.{counted, last_stop, preambles_at, preambles_dropped, stop_after};
 ghost use Rattle.hart_listen.specs.Teller.{Tells, moment};
@@ -44,7 +44,10 @@ pub struct Listener {
 impl Listener {
     /// Returns the state in which nothing was heard.
     pub fn new() -> Listener
-        ensures { IsNew result }
+        ensures waiting { IsWaiting result }
+        ensures told { HasTold false result [] [] }
+        ensures first { result.first ≡ 0 }
+        ensures held { result.held ≡ [] }
     {
         Listener {
             held: Held::new(),

@@ -1,6 +1,4 @@
 -- `hart explain`.
-pub mod Page
-pub mod Printer
-pub mod TellInput
-pub mod TellRaw
 pub mod Grow
+pub mod Printer
+pub mod Input

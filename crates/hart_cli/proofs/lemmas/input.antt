@@ -1,6 +1,5 @@
 -- Reading an input.
 pub mod Decoded
-pub mod Raw
 pub mod InputChars
 pub mod NoMark
 pub mod Reads

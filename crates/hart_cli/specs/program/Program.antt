@@ -6,7 +6,7 @@ use Rattle.hart_cli.specs.Answer.{AnswerOutcome}
 use Rattle.hart_cli.specs.program.CommandLine.{Calls, call_of}
 use Rattle.hart_cli.specs.dump.Dump.{DumpOutcome}
 use Rattle.hart_cli.specs.Encode.{EncodeOutcome}
-use Rattle.hart_cli.specs.explain.Explain.{ExplainOutcome}
+use Rattle.hart_cli.specs.explain.Explanation.{ExplainOutcome}
 use Rattle.hart_cli.specs.FaultText.{fault_line}
 use Rattle.hart_cli.specs.master.Master.{MasterCallOutcome}
 use Rattle.hart_cli.specs.master.MasterWords.{AreInRange}

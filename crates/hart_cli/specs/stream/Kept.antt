@@ -16,6 +16,6 @@ pub record AddsText (old new : Stream) (before after text : List ℕ) : Type 0 w
 
 -- Either a text was appended to the kept text, as `AddsText` says. Or a write failed after a prefix of both texts together was written, but
 -- not all of them.
-abbrev pub Tells : {T : Type 0} → Stream → Stream → List ℕ → List ℕ → List ℕ → Result T Failed → Type 0
-Tells old new before after text result =
+abbrev pub AddsUnlessFailed : {T : Type 0} → Stream → Stream → List ℕ → List ℕ → List ℕ → Result T Failed → Type 0
+AddsUnlessFailed old new before after text result =
     MatchResult result (λ _. AddsText old new before after text) (λ _. FailsToWrite old new (before ++ text))

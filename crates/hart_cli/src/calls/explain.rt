@@ -3,12 +3,11 @@ ghost use Rattle.std.specs.Prelude.{◌≡◌, ◌+◌, ◌-◌, ◌<◌, ◌^�
 ghost use Rattle.hart_listen.specs.Listener.{IsWaiting};
 ghost use Rattle.hart_cli.specs.declared.fault.CliFault.{CliFault};
 ghost use Rattle.hart_cli.specs.declared.calls.explain.printer.Style.{Style};
-ghost use Rattle.hart_cli.specs.explain.Explain.{ExplainOutcome, IsExplanation};
+ghost use Rattle.hart_cli.specs.explain.Explanation.{ExplainOutcome, IsExplanation};
 ghost use Rattle.hart_cli.specs.explain.Printer.{Ends};
 ghost use Rattle.hart_cli.specs.input.Input.{Ending};
 
-use crate::calls::explain::page::Page;
-use crate::calls::explain::printer::{Printer, Style};
+use crate::calls::explain::printer::{Page, Printer, Style};
 use crate::fault::CliFault;
 use crate::input::ahead::{HeardAhead, HeardOpen, NextStep, next_heard_step, read_ahead};
 use crate::input::{PORTION_LEN, read_portion};
@@ -19,7 +18,6 @@ use hart_text::CHUNK_LEN;
 use std::alloc::Global;
 
 pub mod laws;
-mod page;
 pub mod printer;
 
 /// The greatest number of bytes that a raw input may have, so that each place fits in 64 bits.
@@ -142,7 +140,7 @@ fn explain_bytes<R: Source, W: Sink>(
     }
 }
 
-/// Tells the rest of what was heard, after which nothing comes, and writes the text. Returns the fault of the input, if any.
+/// Prints the rest of what was heard, after which nothing comes, and writes the text. Returns the fault of the input, if any.
 ///
 /// # Errors
 ///

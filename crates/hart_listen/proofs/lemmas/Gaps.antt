@@ -1,21 +1,17 @@
--- The places outside messages: which of them have a miss, and the lines of these misses.
-use Rattle.std.proofs.Common.{◌≡◌, ◌≢◌, ◌≤◌, ◌<◌, ◌+◌, ◌-◌, ℕ, zero, suc, Bool, true, false, List, [], ◌∷◌, ◌++◌, length, get_or, drop}
+-- The places outside messages: which of them have a miss.
+use Rattle.std.proofs.Common.{◌≡◌, ◌≤◌, ◌<◌, ◌+◌, ◌-◌, ℕ, zero, suc, true, false, List, [], ◌∷◌, ◌++◌, length, drop}
 use Rattle.std.proofs.Common.{take, Option, None, Some, inl, inr, refl, sym, append_assoc, arith, length-append, length-drop}
 use Rattle.std.proofs.lemmas.Bool.Decides.{nat_tests}
 use Rattle.std.proofs.lemmas.Grind.{common_steps}
 use Rattle.std.proofs.lemmas.List.{take-append-drop}
 use Rattle.std.proofs.lemmas.List.Elements.{Contains-append_cases, Contains-append_left, Contains-append_right, Contains-get_or}
-use Rattle.std.proofs.lemmas.List.Folds.{list_all-append, list_all_at}
 use Rattle.std.proofs.lemmas.List.Kept.{AllPairs-cons}
-use Rattle.std.proofs.lemmas.List.Sums.{AllPass-from_list_all}
-use Rattle.std.specs.Fmt.{digit_glyph, digits, digits_onto}
-use Rattle.std.specs.List.{flat_map, list_all, range_with_len}
+use Rattle.std.specs.List.{flat_map, range_with_len}
 use Rattle.std.specs.Option.{option_map_or}
-use Rattle.std.specs.Prelude.{◌/◌, ◌%◌, ◌==◌, All, AllPairs, Contains, decimal, not, option_map}
-use Rattle.hex.specs.Hex.{encode_with, upper_digits}
+use Rattle.std.specs.Prelude.{AllPairs, Contains, option_map}
 use Rattle.hart_frame.specs.declared.heard.found.Found.{Found}
 use Rattle.hart_frame.specs.declared.heard.miss.Miss.{Miss}
-use Rattle.hart_frame.specs.declared.heard.miss.Miss.TheVariants.{Burst, OnePreamble}
+use Rattle.hart_frame.specs.declared.heard.miss.Miss.TheVariants.{OnePreamble}
 use Rattle.hart_frame.specs.heard.Character.{Character, faultless}
 use Rattle.hart_frame.specs.heard.Frames.{AreFrames, first, moved, none}
 use Rattle.hart_frame.specs.heard.Place.{HasFrameAt}
@@ -25,8 +21,6 @@ use Rattle.hart_frame.proofs.lemmas.heard.Place.{start_test}
 use Rattle.hart_frame.specs.heard.Sighting.{Missed, Seen, header_at, miss_in_whole, missed, seen_miss}
 use Rattle.hart_frame.specs.wire.Header.{HeaderParts}
 use Rattle.hart_listen.specs.Gaps.{IsGap, seen_place}
-use Rattle.hart_explain.specs.Miss.{miss_words}
-use Rattle.hart_explain.specs.Words.{hex_value}
 
 -- the list of the sighting at a place: its miss, changed by `told`, with its header; or the empty list if the place has no miss
 abbrev pub told_at : (Miss → Miss) → (ℕ → Option Miss) → (ℕ → Option HeaderParts) → ℕ → List Seen
@@ -88,32 +82,6 @@ told_in_order told f h a (suc n) = elim (f a) as (λ miss. AllPairs (λ one late
           (λ k d within. omega (arith, told_after told f h (a + 1) n _ (Contains-get_or (told_from told f h (a + 1) n) k d within)))
           (told_in_order told f h (a + 1) n)
     ]
-
--- whether a code is not that of a line feed
-abbrev pub no_line_feed : ℕ → Bool
-no_line_feed code = not (code == 10)
-
-pub unbroken-all : (text : List ℕ) → list_all no_line_feed text ≡ true → All (λ code. code ≢ 10) text
-unbroken-all text test = grind (arith, common_steps, AllPass-from_list_all, nat_tests)
-
--- putting digits before a text adds no line feed
-unbroken-onto : (k n : ℕ) (text : List ℕ) → list_all no_line_feed text ≡ true → list_all no_line_feed (digits_onto k 10 false n text) ≡ true
-unbroken-onto zero n text test = test
-unbroken-onto (suc k) n text test = grind (arith, nat_tests, unbroken-onto k (n / 10) (digit_glyph false (n % 10) ∷ text))
-
-pub unbroken-decimal : (n : ℕ) → list_all no_line_feed (decimal n) ≡ true
-unfolding digits
-unbroken-decimal n = unbroken-onto 64 n [] refl
-
--- a hexadecimal digit is no line feed
-pub unbroken-digit : (k : ℕ) → no_line_feed (get_or upper_digits k 0) ≡ true
-unbroken-digit k = grind (arith, common_steps, list_all_at no_line_feed upper_digits)
-
--- the words of a miss have no line feed
-pub unbroken-miss_words : (miss : Miss) → list_all no_line_feed (miss_words miss) ≡ true
-unfolding encode_with hex_value
-unbroken-miss_words Burst = refl
-unbroken-miss_words _ = grind (arith, list_all-append, unbroken-decimal, unbroken-digit)
 
 -- a frame still stands in characters if others are put before them
 stands_after : (before chars : List Character) (found : Found) (at : ℕ) → at ≤ length before → StandsIn found chars 0

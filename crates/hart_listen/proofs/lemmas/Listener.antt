@@ -21,8 +21,9 @@ use Rattle.hart_listen.specs.Dates.{date_at, date_from, kept_word}
 use Rattle.hart_listen.specs.LastMessages.{KeepsOwn, recalled}
 use Rattle.hart_listen.specs.Gaps.{seen_place}
 use Rattle.hart_listen.specs.Preambles.{after_preambles, counted, last_preambles, last_stop, preambles_at, preambles_dropped}
-use Rattle.hart_listen.specs.Listener.{DecidesNoMore, Explains, Hears, HearsText, IsNew, IsWaiting, StandsFor, chars_after, dated_from}
+use Rattle.hart_listen.specs.Listener.{DecidesNoMore, Explains, Hears, HearsText, IsWaiting, StandsFor, chars_after, dated_from}
 use Rattle.hart_listen.specs.Listener.{total}
+use Rattle.hart_listen.specs.Past.{no_past}
 use Rattle.hart_listen.specs.Sightings.{AreDecided, ComeFirst}
 use Rattle.hart_listen.specs.Teller.{Moment, Tells, ToldBetween}
 use Rattle.hart_listen.specs.declared.dates.Dates.{Dates}
@@ -37,7 +38,7 @@ use Rattle.hart_listen.proofs.lemmas.Stands.{ended_seen, plus_zero, stands_date,
 use Rattle.hart_listen.proofs.lemmas.Stands.{told_first}
 
 -- the characters of two lists of bytes, joined, are those of both lists
-pub faultless_on : (xs ys : List ℕ) → faultless (xs ++ ys) ≡ faultless xs ++ faultless ys
+faultless_on : (xs ys : List ℕ) → faultless (xs ++ ys) ≡ faultless xs ++ faultless ys
 faultless_on xs ys = map-append _ xs ys
 
 -- the characters of the rest of some bytes are the rest of their characters
@@ -268,13 +269,13 @@ reads_mark text rest m begins =
     reading.mark text [] text m rest [] rest (item.nothing text) begins (reading.items rest [] rest (item.nothing rest))
 
 -- a new listener waits for more
-pub new_waits : (start : Listener) → IsNew start → IsWaiting start
-new_waits start new = record {
-  undecided = rw new.held undecided_nothing;
-  few = rw new.held (omega arith);
-  dated = rw (new.held, new.dated) refl;
-  own = rw new.no_past (tt, tt);
-  preambles = rw new.no_past (omega arith);
+pub new_waits : (t : Listener) → t.held ≡ [] → t.dates.held.items ≡ [] → t.past ≡ no_past → IsWaiting t
+new_waits t held dated past = record {
+  undecided = rw held undecided_nothing;
+  few = rw held (omega arith);
+  dated = rw (held, dated) refl;
+  own = rw past (tt, tt);
+  preambles = rw past (omega arith);
 }
 
 -- no sighting after those told is decided

@@ -24,7 +24,7 @@ use Rattle.hart_listen.specs.Dated.{Dated, dated_after, dated_one, words_of}
 use Rattle.hart_listen.specs.Gaps.{seen_place}
 use Rattle.hart_listen.specs.Listener.{total}
 use Rattle.hart_listen.specs.Preambles.{after_preambles, counted, counted_one, last_preambles, last_stop, own_preambles, preambles_in}
-use Rattle.hart_listen.specs.Preambles.{preambles_at, preambles_of, stop_after, stop_of}
+use Rattle.hart_listen.specs.Preambles.{preambles_at, preambles_of, stop_after, stop_of, told_of}
 use Rattle.hart_listen.specs.Sightings.{date_of}
 use Rattle.hart_listen.proofs.lemmas.Dates.{date_before, same_within, total_count}
 use Rattle.hart_listen.proofs.lemmas.HeldDates.{before_or_not}
@@ -254,8 +254,7 @@ dates_stay heard more seen within =
     within
 
 pub counts_stay : (heard more : List Heard) (seen : List Seen) → All (λ s. seen_place s < count heard) seen
-    → counted (preambles_of heard) [] (dated_after (date_of heard) [] seen)
-    ≡ counted (preambles_of (heard ++ more)) [] (dated_after (date_of (heard ++ more)) [] seen)
+    → told_of heard seen ≡ told_of (heard ++ more) seen
 counts_stay heard more seen within =
     counted_same (preambles_of heard) (preambles_of (heard ++ more)) [] (date_of heard) [] seen
     (All-weaker (λ (s : Seen). seen_place s < count heard) (CountAlike (preambles_of heard) (preambles_of (heard ++ more)))

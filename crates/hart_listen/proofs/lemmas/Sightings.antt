@@ -1,5 +1,5 @@
 -- Sightings that are found one after another, and what is said of them.
-use Rattle.std.proofs.Common.{◌≡◌, ◌≤◌, ◌+◌, ℕ, Bool, false, List, [], ◌∷◌, ◌++◌, length, map, drop, refl, append-nil}
+use Rattle.std.proofs.Common.{◌≡◌, ◌≤◌, ◌+◌, ℕ, Bool, false, List, [], ◌∷◌, ◌++◌, length, map, drop, refl}
 use Rattle.std.proofs.Common.{arith}
 use Rattle.std.proofs.lemmas.Grind.{common_steps}
 use Rattle.std.proofs.lemmas.List.{drop-append-le, drop-drop, map-append}
@@ -51,7 +51,3 @@ pub undecided_nothing : IsUndecidedSighting []
 undecided_nothing first comes =
     let none = seen_to_the_end [] false [] (λ more later closed are. are) in
     let (later, is) = comes [] [] none in absurd cc
-
--- adding no characters does not change the sightings
-pub at_end : (chars : List Character) (seen : List Seen) → AreSightings (chars ++ []) 0 seen → AreSightings chars 0 seen
-at_end chars seen are = rw append-nil at are

@@ -4,7 +4,7 @@ use Rattle.std.proofs.Common.{◌-◌, ap, arith, inl, inr}
 use Rattle.std.proofs.Common.{append-nil, append_assoc, length-append, length-drop}
 use Rattle.std.proofs.Math.Seq.{take-add}
 use Rattle.std.proofs.lemmas.List.{drop-append-le, drop-drop, map-append, take-append-le}
-use Rattle.std.proofs.lemmas.List.Elements.{All-map, All-nil, All-weaker}
+use Rattle.std.proofs.lemmas.List.Elements.{All-map, All-weaker}
 use Rattle.hart_frame.specs.heard.Character.{Character}
 use Rattle.hart_frame.specs.heard.Sighting.{AreSightings, Seen, SeesOn, moved_seen}
 use Rattle.hart_frame.proofs.lemmas.scan.SightingLaws.{all as seen_to_the_end, grown, onward}
@@ -15,8 +15,11 @@ use Rattle.hart_listen.specs.Before.{AreAlike}
 use Rattle.hart_listen.specs.Dated.{Dated, dated_after}
 use Rattle.hart_listen.specs.Gaps.{seen_place}
 use Rattle.hart_listen.specs.LastMessages.{recalled}
-use Rattle.hart_listen.specs.Listener.{IsNew, Stands, StandsFor, dated_from, total}
+use Rattle.hart_listen.specs.Dates.{date_from}
+use Rattle.hart_listen.specs.Listener.{HasTold, Stands, dated_from, total}
+use Rattle.hart_listen.specs.Past.{no_past}
 use Rattle.hart_listen.specs.Preambles.{after_preambles, counted, last_preambles, last_stop, preambles_at, preambles_in, preambles_of}
+use Rattle.hart_listen.specs.Preambles.{told_of}
 use Rattle.hart_listen.specs.Sightings.{AreSightingsFrom, AreSightingsOf, ComeFirst, date_of}
 use Rattle.hart_listen.specs.declared.listener.Listener.{Listener}
 use Rattle.hart_listen.specs.declared.past.Past.{Past}
@@ -27,7 +30,7 @@ use Rattle.hart_listen.proofs.lemmas.HeldDates.{before_or_not}
 use Rattle.hart_listen.proofs.lemmas.InStretches.{after_nothing, after_twice, one_seen, one_stretch, seen_on, some_seen}
 use Rattle.hart_listen.proofs.lemmas.InStretches.{stretches_chars, total_on}
 use Rattle.hart_listen.proofs.lemmas.Preambles.{CountAlike, counted_same, counted_then, counts_stay, held_preambles, kept_before}
-use Rattle.hart_listen.proofs.lemmas.Sightings.{at_end, sees_rest}
+use Rattle.hart_listen.proofs.lemmas.Sightings.{sees_rest}
 
 -- adding nothing changes no number
 pub plus_zero : (n : ℕ) → n + 0 ≡ n
@@ -37,8 +40,9 @@ zero_plus : (n : ℕ) → 0 + n ≡ n
 zero_plus n = omega arith
 
 -- nothing was heard yet
-pub stands_none : (Told : List Dated → Type 0) (t : Listener) → IsNew t → Told [] → StandsFor Told false t []
-stands_none Told t new none = record {
+pub stands_none : (t : Listener) → t.first ≡ 0 → t.held ≡ [] → ((place : ℕ) → date_from t place ≡ []) → t.past ≡ no_past
+    → HasTold false t [] []
+stands_none t first held undated is = record {
   earlier = [];
   chars = [];
   splits = λ more. sym (after_nothing more);
@@ -46,16 +50,16 @@ stands_none Told t new none = record {
   are_before = refl;
   base = 0;
   within_chars = omega arith;
-  first_is = omega (arith, new.first);
-  held_is = rw new.held refl;
+  first_is = omega (arith, first);
+  held_is = rw held refl;
   seen = [];
   sees = λ more later closed are. are;
   within = omega arith;
-  dates = λ place from. new.undated place;
-  alike = alike_same _ _ (ap (λ (past : Past). recalled past.last) new.no_past);
-  stop = ap (λ (past : Past). past.stop) new.no_past;
-  preambles = ap (λ (past : Past). past.preambles) new.no_past;
-  told = none;
+  dates = λ place from. undated place;
+  alike = alike_same _ _ (ap (λ (past : Past). recalled past.last) is);
+  stop = ap (λ (past : Past). past.stop) is;
+  preambles = ap (λ (past : Past). past.preambles) is;
+  told = refl;
 }
 
 -- the preamble bytes right before a held character are those of all that was heard
@@ -127,14 +131,28 @@ stands_on Told After x y date first held used to ended heard given s sees within
     }
 
 -- what was told stands in another form, too
-pub stands_told : (Told After : List Dated → Type 0) (past : Past) (date : ℕ → List ℕ) (first : ℕ) (held : List Character)
-    (used : ℕ) (ended : Bool) (heard : List Heard) → Stands Told past date first held used ended heard
-    → ((list : List Dated) → Told list → After list) → Stands After past date first held used ended heard
-stands_told Told After past date first held used ended heard s also =
-    stands_on Told After past past date first held used used ended heard [] s (λ more later closed are. are) s.within
-    (All-nil (λ (s : Seen). seen_place s < length held)) (λ earlier list is told. rw append-nil (also list told))
-    (alike_same (recalled past.last) (recalled past.last ++ []) (sym (append-nil (recalled past.last))))
-    (λ earlier is. rw append-nil is) refl
+pub retold : (Told After : List Dated → Type 0) (past : Past) (date : ℕ → List ℕ) (first : ℕ) (held : List Character) (used : ℕ)
+    (ended : Bool) (heard : List Heard) → (s : Stands Told past date first held used ended heard)
+    → After (told_of heard (s.before ++ map (moved_seen (total s.earlier)) s.seen)) → Stands After past date first held used ended heard
+retold Told After past date first held used ended heard s told = record {
+  earlier = s.earlier;
+  chars = s.chars;
+  splits = s.splits;
+  before = s.before;
+  are_before = s.are_before;
+  base = s.base;
+  within_chars = s.within_chars;
+  first_is = s.first_is;
+  held_is = s.held_is;
+  seen = s.seen;
+  sees = s.sees;
+  within = s.within;
+  dates = s.dates;
+  alike = s.alike;
+  stop = s.stop;
+  preambles = s.preambles;
+  told = told;
+}
 
 -- the characters that were let go and the held ones are all that were heard
 pub stands_count : (Told : List Dated → Type 0) (past : Past) (date : ℕ → List ℕ) (first : ℕ) (held : List Character) (used : ℕ)
@@ -339,18 +357,3 @@ stands_date Told past date after first held used heard word s earlier later =
       preambles = s.preambles;
       told = rw (counts_stay heard (Date word ∷ []) _ within) at s.told;
     }
-
--- what was told so far are the first sightings of all that was heard
-pub stands_whole : (Told : List Dated → Type 0) (past : Past) (date : ℕ → List ℕ) (first : ℕ) (held : List Character) (used : ℕ)
-    (ended : Bool) (heard : List Heard) → (s : Stands Told past date first held used ended heard)
-    → (later : List Seen) × AreSightingsOf heard ((s.before ++ map (moved_seen (total s.earlier)) s.seen) ++ later)
-stands_whole Told past date first held used ended heard s =
-    let whole : stretches heard ≡ s.earlier ++ s.chars ∷ [] = rw (append-nil heard, append-nil s.chars) at (s.splits []) in
-    let (later, stands) = some_list (s.chars ++ []) (s.base + used) in
-    let are = at_end s.chars (s.seen ++ later) (s.sees [] later (λ over. refl) stands) in
-    let place = total s.earlier in
-    let all : s.before ++ map (moved_seen place) (s.seen ++ later)
-    ≡ (s.before ++ map (moved_seen place) s.seen) ++ map (moved_seen place) later =
-    ap (λ xs. s.before ++ xs) (map-append _ s.seen later)
-    ∙ sym (append_assoc s.before (map (moved_seen place) s.seen) (map (moved_seen place) later)) in
-    (map (moved_seen place) later, rw (whole, ← all) (ended_seen s.earlier s.before s.chars (s.seen ++ later) s.are_before are))

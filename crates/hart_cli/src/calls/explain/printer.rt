@@ -1,15 +1,16 @@
-//! Tellers that print dated sightings: in words, or as JSON objects.
-ghost use Rattle.std.specs.Prelude.{◌≡◌, ◌≤◌, ◌++◌, length};
+//! Tellers that print dated sightings: in words, or as JSON objects. They print on a page, which remembers a failed write. So functions
+//! that add text need not check for it.
+ghost use Rattle.std.specs.Prelude.{◌≡◌, ◌≤◌, ◌++◌, [], false, true, MatchResult, length};
 ghost use Rattle.hart_frame.specs.heard.Sighting.{moved_seen};
 ghost use Rattle.hart_frame.specs.scan.Sighting.{seen_of};
 ghost use Rattle.hart_explain.specs.Sighting.{FitsFrom};
 ghost use Rattle.hart_cli.specs.explain.Explanation.{text_of};
-ghost use Rattle.hart_cli.specs.explain.Printer.{IsPrinted};
+ghost use Rattle.hart_cli.specs.explain.Printer.{IsBlank, PrintedBetween, Takes};
 ghost use Rattle.hart_cli.specs.stream.Kept.{HasRoomFor};
 
-use crate::calls::explain::page::Page;
-use crate::kept::Kept;
-use crate::stream::Sink;
+use crate::kept::{KEPT_LEN, Kept, PIECE_LEN};
+use crate::output::write_all;
+use crate::stream::{Failed, Sink};
 use hart_explain::{Before, Pairs, objects, words};
 use hart_frame::Sighting;
 use hart_listen::Teller;
@@ -34,12 +35,62 @@ pub struct Printer {
     pub page: Page,
 }
 
+/// Text that is not yet written, and whether a write failed. After a failed write, no more is written, and further text is dropped.
+#[derive(Drop)]
+pub struct Page {
+    /// The text that is not yet written.
+    pub kept: Kept,
+    /// Whether a write failed.
+    pub failed: bool,
+}
+
+impl Page {
+    /// Returns a page without text, on which no write has failed.
+    pub fn new() -> Page
+        ensures { IsBlank result }
+    {
+        Page {
+            kept: Kept::new(),
+            failed: false,
+        }
+    }
+
+    /// Writes the kept text and drops it. Writes nothing if a write failed before.
+    ///
+    /// # Errors
+    ///
+    /// `Failed` if a write failed, now or before.
+    pub fn write<W: Sink>(&mut self, writer: &mut W) -> Result<(), Failed>
+        ensures takes { Takes self.old self.new (W.stream writer.old) (W.stream writer.new) [] }
+        ensures quiet { self.new.kept ≡ [] }
+        ensures failed { MatchResult result (λ _. self.new.failed ≡ false) (λ _. self.new.failed ≡ true) }
+    {
+        if self.failed {
+            self.kept.clear();
+            return Err(Failed);
+        }
+        let result = write_all(writer, self.kept.as_slice());
+        self.kept.clear();
+        self.failed = result.is_err();
+        result
+    }
+
+    /// Writes and drops the kept text if it leaves room for fewer than `PIECE_LEN` bytes. The next [`Page::write`] says whether a write
+    /// failed.
+    #[tactic(auto, using(crate::proofs::lemmas::explain::Printer::takes_none))]
+    pub fn make_room<W: Sink>(&mut self, writer: &mut W)
+        ensures takes { Takes self.old self.new (W.stream writer.old) (W.stream writer.new) [] }
+        ensures room { HasRoomFor 16384 self.new.kept }
+    {
+        if self.kept.len() > KEPT_LEN - PIECE_LEN {
+            let _result = self.write(writer);
+        }
+    }
+}
+
 /// If a write failed, the text of further sightings is dropped.
 impl<W: Sink> Teller<W> for Printer {
-    ghost told = { λ start since now list. IsPrinted
-        start.teller.style (W.stream start.writer) (W.stream since.writer)
-        now.teller (W.stream now.writer)
-        list };
+    ghost told = { PrintedBetween W.stream };
 
     #[inline(always)]
     fn tell(

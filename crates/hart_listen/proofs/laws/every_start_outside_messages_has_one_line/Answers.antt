@@ -1,6 +1,5 @@
-use Rattle.std.proofs.Common.{◌-◌, ◌++◌, ◌∷◌, ◌<◌, ◌∙◌, ◌≢◌, [], ℕ, append_assoc, drop, inl, inr, refl, sym, codes, decimal, arith}
-use Rattle.std.proofs.lemmas.List.Elements.{All-append, All-drop, All-weaker}
-use Rattle.std.proofs.lemmas.List.Folds.{list_all-append}
+use Rattle.std.proofs.Common.{◌-◌, ◌++◌, ◌∷◌, ◌<◌, ◌∙◌, ◌≢◌, [], ℕ, ap, append_assoc, drop, inl, inr, refl, sym, arith}
+use Rattle.std.proofs.lemmas.List.Elements.{All-append, All-cons, All-drop, All-weaker}
 use Rattle.hart_frame.specs.heard.Character.{Character}
 use Rattle.hart_frame.specs.heard.Sighting.{Message, header_at, miss_in_whole, missed, seen_miss, sightings}
 use Rattle.hart_text.specs.Heard.{IsVisible}
@@ -8,11 +7,8 @@ use Rattle.hart_listen.specs.Before.{before_of}
 use Rattle.hart_listen.specs.Dated.{explanation, words_of}
 use Rattle.hart_explain.specs.Sighting.{date_words}
 use Rattle.hart_explain.specs.Message.{paragraph}
-use Rattle.hart_explain.specs.Miss.{miss_words}
-use Rattle.hart_explain.specs.Header.{header_words}
 use Rattle.hart_listen.proofs.lemmas.Gaps.{missed_are, no_frame_in_gap, seen_is_miss, start_is_seen, told_has, told_in_order, told_is}
-use Rattle.hart_listen.proofs.lemmas.Gaps.{unbroken-all, unbroken-decimal, unbroken-miss_words, whole_one}
-use Rattle.hart_listen.proofs.lemmas.Header.{unbroken-header_words}
+use Rattle.hart_listen.proofs.lemmas.Gaps.{whole_one}
 use Rattle.hart_listen.proofs.lemmas.Dated.{text_then}
 use Rattle.hart_listen.proofs.laws.every_start_outside_messages_has_one_line.Goals as goal
 
@@ -29,11 +25,7 @@ pub returns-clause-last_gap : goal.returns-clause-last_gap
 returns-clause-last_gap c date earlier chars from = refl
 
 pub returns-clause-one_line : goal.returns-clause-one_line
-returns-clause-one_line c place miss = record {
-  words = decimal place ++ codes ": no message: " ++ miss_words miss;
-  ended = refl;
-  unbroken = unbroken-all _ (simp (list_all-append, unbroken-decimal, unbroken-miss_words));
-}
+returns-clause-one_line c = c.misses_are_lines.ensures.one
 
 -- a visible byte is no line feed
 visible_stays : (byte : ℕ) → IsVisible byte → byte ≢ 10
@@ -41,20 +33,17 @@ visible_stays byte visible = λ same. omega (arith, visible.0, same)
 
 pub returns-clause-dated_line : goal.returns-clause-dated_line
 returns-clause-dated_line c word place miss valid =
-    let told = 32 ∷ (decimal place ++ codes ": no message: " ++ miss_words miss) in
-    let unbroken = unbroken-all told (simp (list_all-append, unbroken-decimal, unbroken-miss_words) refl) in record {
-      words = word ++ told;
-      ended = sym (append_assoc word told (10 ∷ []));
-      unbroken = All-append (λ code. code ≢ 10) word told
-          (All-weaker IsVisible (λ code. code ≢ 10) visible_stays word valid.visible) unbroken;
+    let line = c.misses_are_lines.ensures.one place miss in
+    record {
+      words = word ++ 32 ∷ line.words;
+      ended = ap (λ text. word ++ 32 ∷ text) line.ended ∙ sym (append_assoc word (32 ∷ line.words) (10 ∷ []));
+      unbroken = All-append (λ code. code ≢ 10) word (32 ∷ line.words)
+          (All-weaker IsVisible (λ code. code ≢ 10) visible_stays word valid.visible)
+          (All-cons (λ code. code ≢ 10) 32 line.words (λ same. absurd cc) line.unbroken);
     }
 
 pub returns-clause-second_line : goal.returns-clause-second_line
-returns-clause-second_line c header = record {
-  words = codes "    seems: " ++ header_words header;
-  ended = refl;
-  unbroken = unbroken-all (codes "    seems: " ++ header_words header) (simp unbroken-header_words refl);
-}
+returns-clause-second_line c = c.misses_are_lines.ensures.second
 
 pub returns-clause-in_order : goal.returns-clause-in_order
 returns-clause-in_order c chars from stop =

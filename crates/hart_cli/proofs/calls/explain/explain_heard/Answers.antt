@@ -1,4 +1,4 @@
-use Rattle.std.proofs.Common.{◌≡◌, ◌+◌, ◌∙◌, drop, refl, arith}
+use Rattle.std.proofs.Common.{◌≡◌, ◌+◌, ◌∙◌, drop, false, refl, arith}
 use Rattle.std.proofs.lemmas.Grind.{common_steps}
 use Rattle.std.proofs.lemmas.List.{take_rest}
 use Rattle.std.proofs.lemmas.Result.{err_from_is_err_and}
@@ -11,10 +11,11 @@ use Rattle.hart_cli.specs.input.Input.{stream_limit}
 use Rattle.hart_cli.specs.input.LiveInput.{IsDecidedText, WroteInTime}
 use Rattle.hart_cli.proofs.calls.explain.explain_heard.Given.{Over}
 use Rattle.hart_cli.proofs.calls.explain.explain_heard.Goals.{After-write}
+use Rattle.hart_cli.specs.explain.Printer.{PrintedBetween}
 use Rattle.hart_listen.specs.Teller.{moment}
+use Rattle.hart_listen.proofs.lemmas.Laws.{tellers_are_told_what_is_heard}
 use Rattle.hart_cli.proofs.lemmas.explain.Printer.{prints_page}
-use Rattle.hart_cli.proofs.lemmas.explain.TellInput.{HeardUpTo, heard_nothing, heard_outcome, heard_step, places_end, places_fit}
-use Rattle.hart_cli.proofs.lemmas.explain.TellInput.{stops_up_to}
+use Rattle.hart_cli.proofs.lemmas.explain.Input.{HeardUpTo, heard_nothing, heard_outcome, heard_step, places_fit, stops_up_to}
 use Rattle.hart_cli.proofs.lemmas.input.Decoded.{more_read, read_on, rest_within}
 use Rattle.hart_cli.proofs.calls.explain.explain_heard.Goals as goal
 
@@ -22,7 +23,8 @@ pub loop-ahead-init : goal.loop-ahead-init
 loop-ahead-init g c =
     rw c.new-ahead.ensures (record {
       buffer_length = grind (arith, common_steps);
-      heard = heard_nothing _ _ c.args.style c.new-listener.result _ c.new-listener.ensures c.new-2.ensures refl;
+      heard = heard_nothing _ _ c.args.style c.new-listener.result _ c.new-listener.ensures.told c.new-listener.ensures.waiting
+          c.new-2.ensures refl;
       quiet = c.new-2.ensures.quiet;
       unfailed = c.new-2.ensures.unfailed;
       within = omega arith;
@@ -33,16 +35,15 @@ loop-ahead-init g c =
 pub hear_text-place-requires-clause-places : goal.hear_text-place-requires-clause-places
 hear_text-place-requires-clause-places g c =
     let loop = c.loop-ahead.invariant in
-    let fits = places_fit _ _ c.args.style c.loop-ahead.listener c.loop-ahead.printer _ _ c.loop-ahead.read _ _ loop.heard loop.within in
+    let fits = places_fit _ _ c.args.style c.loop-ahead.listener c.loop-ahead.printer _ _ c.loop-ahead.read _ _ loop.heard in
     omega (arith, fits, c.as_slice.ensures.fits)
 
 -- what was read was heard, and its text was written unless a write failed
 heard : (g : Over) (c : After-write g)
     → (now : HeardUpTo (g.R.Source.stream c.args.reader.now) (g.R.Source.stream c.read_ahead-portion.new.reader)
-    c.args.style c.hear_text-place.new.self (record c.hear_text-place.new.teller { page = c.write.new.self })
-    c.read_ahead-portion.result.end
-    (drop c.hear_text-place.result c.read_ahead-portion.new.ahead)
-    (c.loop-ahead.read + c.read_ahead-portion.result.len)
+    c.read_ahead-portion.result.end (drop c.hear_text-place.result c.read_ahead-portion.new.ahead)
+    (c.loop-ahead.read + c.read_ahead-portion.result.len) c.args.style c.hear_text-place.new.self
+    (record c.hear_text-place.new.teller { page = c.write.new.self })
     (g.W.Sink.stream c.args.writer.now) (g.W.Sink.stream c.write.new.writer))
     × WroteInTime (IsDecidedText heard_decoding (IsDecidedIn c.args.style)) now.input
     (g.W.Sink.stream c.args.writer.now) (g.W.Sink.stream c.write.new.writer)
@@ -52,11 +53,12 @@ heard g c =
     let few = rw c.as_slice.ensures.value at c.as_slice.ensures.fits in
     let start = moment (record c.loop-ahead.printer { style = c.args.style }) c.args.writer.now in
     let since = moment c.loop-ahead.printer c.loop-ahead.writer in
+    let prints = tellers_are_told_what_is_heard (PrintedBetween g.W.Sink.stream) c.loop-ahead.listener c.hear_text-place.new.self _ _
+    _ _ text.hears.hears start since _ _ loop.heard.prints.1 loop.heard.prints.2 in
     heard_step _ _ _ _ _ _ c.args.style c.loop-ahead.listener _ c.loop-ahead.printer _ _ _ _ c.loop-ahead.read
     c.read_ahead-portion.result text.hears.heard loop.heard loop.quiet loop.unfailed loop.is_open c.read_ahead-portion.ensures.reads few
     text.stops text.hears.reads
-    (λ earlier s. prints_page c.args.style _ _ c.hear_text-place.new.self c.hear_text-place.new.teller _ _ _ _ refl c.write.ensures.takes
-    (text.hears.hears start since earlier s))
+    (prints_page false c.args.style _ _ c.hear_text-place.new.self _ _ _ _ _ refl c.write.ensures.takes prints)
     text.waiting
 
 pub returns-in_err-write : goal.returns-in_err-write
@@ -79,7 +81,7 @@ finish-requires-clause-waiting g c =
 pub finish-requires-clause-places : goal.finish-requires-clause-places
 finish-requires-clause-places g c =
     let (now, in_time) = heard g (goal.at.finish-requires-clause-places g c).After-write in
-    places_end _ _ c.args.style _ _ _ _ _ _ _ now
+    omega (arith, places_fit _ _ c.args.style _ _ _ _ _ _ _ now)
 
 pub returns-in-Stop : goal.returns-in-Stop
 returns-in-Stop g c =
@@ -87,7 +89,7 @@ returns-in-Stop g c =
     let start = moment (record c.loop-ahead.printer { style = c.args.style }) c.args.writer.now in
     let since = moment c.loop-ahead.printer c.write.new.writer in
     heard_outcome _ _ _ _ _ c.args.style _ _ _ _ _ c.in-Stop.fault c.finish.result now in_time
-    (rw (take_rest, c.as_slice-in-loop-ahead.ensures.value) at c.in-Stop.ensures.step) (c.finish.ensures start since now.heard now.stands)
+    (rw (take_rest, c.as_slice-in-loop-ahead.ensures.value) at c.in-Stop.ensures.step) (c.finish.ensures start since now.heard now.prints)
 
 pub loop-ahead-smaller : goal.loop-ahead-smaller
 loop-ahead-smaller g c =

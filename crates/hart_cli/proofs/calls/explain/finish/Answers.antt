@@ -1,20 +1,23 @@
-use Rattle.std.proofs.Common.{◌≡◌, Result, append-nil, false, inl, inr, true}
+use Rattle.std.proofs.Common.{◌≡◌, Result, append-nil, false, inl, inr, refl, true}
 use Rattle.std.proofs.lemmas.Result.{err_from_is_err_and}
 use Rattle.hart_cli.specs.declared.fault.CliFault.{CliFault}
-use Rattle.hart_cli.specs.explain.Printer.{Ends, EndsWith}
-use Rattle.hart_cli.proofs.lemmas.explain.Printer.{prints_end}
+use Rattle.hart_cli.specs.explain.Printer.{Ends, EndsWith, PrintedBetween}
+use Rattle.hart_listen.proofs.lemmas.Laws.{tellers_are_told_what_is_heard}
+use Rattle.hart_cli.proofs.lemmas.explain.Printer.{prints_end, prints_page}
 use Rattle.hart_cli.proofs.calls.explain.finish.Given.{Over}
 use Rattle.hart_cli.proofs.calls.explain.finish.Goals.{After-write}
 use Rattle.hart_cli.proofs.calls.explain.finish.Goals as goal
 
--- the rest was told and written, or a write failed in it
+-- the rest was printed and written, or a write failed in it
 ended : {T : Type 0} (g : Over) (c : After-write g) (result : Result T CliFault)
     → EndsWith c.args.fault (c.write.new.self.failed ≡ false) (c.write.new.self.failed ≡ true) result
     → Ends g.W.Sink.stream c.args.listener.now c.args.printer.now c.args.fault c.args.writer.now c.write.new.writer result
-ended g c result ends start since heard s =
-    prints_end start.teller.style _ _ c.hear_end.new.self c.hear_end.new.teller (record c.hear_end.new.teller { page = c.write.new.self })
-    heard c.args.fault _ _ _ (rw append-nil at (c.hear_end.ensures.hears start since heard s)) c.hear_end.ensures.ended
-    c.write.ensures.takes c.write.ensures.quiet ends
+ended g c result ends start since heard (list, told, h) =
+    let prints = tellers_are_told_what_is_heard (PrintedBetween g.W.Sink.stream) c.args.listener.now c.hear_end.new.self _ _ _ _
+    c.hear_end.ensures.hears start since heard list told h in
+    prints_end start.teller.style _ _ c.hear_end.new.self (record c.hear_end.new.teller { page = c.write.new.self }) heard c.args.fault _ _
+    (prints_page true start.teller.style _ _ c.hear_end.new.self _ _ _ _ _ refl c.write.ensures.takes (rw append-nil at prints))
+    c.hear_end.ensures.ended c.write.ensures.quiet ends
 
 pub returns-in_err-write : goal.returns-in_err-write
 returns-in_err-write g c =

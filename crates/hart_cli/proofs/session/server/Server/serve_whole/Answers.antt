@@ -28,14 +28,14 @@ returns-in_err-make_room g c = record {
       text_fails g.S.Station.serves _ _ _ _ _ _ c.from_residual.result
       (err_from_is_err_and c.from_residual.result c.from_residual.ensures.1).1
       (front_fails g.S.Station.serves c.args.self.now c.loop-part.self part c.args.more.now c.loop-part.rest.now _ _ _
-      (c.loop-part.invariant part free keeps) (rw (kept_of c.self.view_is) at c.in_err-make_room.ensures.tells));
+      (c.loop-part.invariant part free keeps) (rw (kept_of c.self.view_is) at c.in_err-make_room.ensures.adds));
 }
 
 pub loop-part-preserved : goal.loop-part-preserved
 loop-part-preserved g c = λ part free keeps.
     front_next_at g.S.Station.serves c.serve_part.ensures c.args.self.now c.loop-part.self _ c.self.view_is part c.args.more.now
     c.loop-part.rest.now _ _ _ _ _ (c.loop-part.invariant part free keeps) c.in-Some.ensures refl c.keep.ensures.bytes
-    c.in_ok-make_room.ensures.tells
+    c.in_ok-make_room.ensures.adds
 
 pub returns : goal.returns
 returns g c = record {

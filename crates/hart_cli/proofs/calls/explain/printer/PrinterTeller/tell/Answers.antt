@@ -1,6 +1,5 @@
 use Rattle.std.proofs.Common.{refl}
-use Rattle.hart_cli.proofs.lemmas.explain.Page.{takes_kept}
-use Rattle.hart_cli.proofs.lemmas.explain.Printer.{printed_more}
+use Rattle.hart_cli.proofs.lemmas.explain.Printer.{printed_more, takes_kept}
 use Rattle.hart_cli.proofs.calls.explain.printer.PrinterTeller.tell.Goals as goal
 
 pub returns : goal.returns

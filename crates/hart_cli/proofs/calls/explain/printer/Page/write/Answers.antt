@@ -1,7 +1,7 @@
 use Rattle.std.proofs.Common.{◌≡◌, arith, false, true}
 use Rattle.std.proofs.lemmas.Grind.{common_steps}
-use Rattle.hart_cli.proofs.lemmas.explain.Page.{takes_dropped, takes_written}
-use Rattle.hart_cli.proofs.calls.explain.page.Page.write.Goals as goal
+use Rattle.hart_cli.proofs.lemmas.explain.Printer.{takes_dropped, takes_written}
+use Rattle.hart_cli.proofs.calls.explain.printer.Page.write.Goals as goal
 
 pub returns-then-self-clause-takes : goal.returns-then-self-clause-takes
 returns-then-self-clause-takes g c =
