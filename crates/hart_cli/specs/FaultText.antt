@@ -10,7 +10,8 @@ use Rattle.hart_station.specs.FaultText as text_faults
 use Rattle.hart_station.specs.declared.fault.TextFault.{TextFault}
 use Rattle.hart_station.specs.declared.fault.TextFault.TheVariants as texts
 
--- The text of a fault, without the reason why a word of `hart request` is bad. The texts of bad hex and of bad words are those of a line.
+-- The text of a fault, without the reason why a word of `hart request` is bad. The texts of bad hex and of bad words are
+-- those that `hart_station` defines.
 abbrev pub text_before_reason : CliFault → List ℕ
 text_before_reason Read = codes "read fault"
 text_before_reason Write = codes "write fault"

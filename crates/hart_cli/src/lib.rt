@@ -43,7 +43,7 @@ pub use calls::answer::{answer, one_answer};
 pub use calls::dump::{dump, one_dump};
 pub use calls::encode::encode_text;
 pub use calls::explain::laws::{
-    explanations_grow, explanations_name_the_messages_of_dump, json_tells_what_explain_tells,
+    explanations_grow, explanations_name_the_messages_of_dump, json_has_the_sightings_of_explain,
 };
 pub use calls::explain::printer::Style;
 pub use calls::explain::{explain, one_explanation};

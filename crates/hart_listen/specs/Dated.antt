@@ -1,4 +1,4 @@
--- What is told of what was heard: its sightings, each with its date and with what the messages before it say of it (implementation choice).
+-- Sightings, each with its date and with what the messages before it say of it (implementation choice).
 use Rattle.std.specs.Prelude.{ℕ, List, [], ◌∷◌, ◌++◌}
 use Rattle.std.specs.List.{flat_map}
 use Rattle.hart_frame.specs.heard.Sighting.{Seen}

@@ -57,17 +57,17 @@ pub record Stands (Told : List Dated → Type 0) (past : Past) (date : ℕ → L
   pub preambles : past.preambles ≡ last_preambles (take base chars)
   pub told : Told (told_of heard (before ++ map (moved_seen (total earlier)) seen))
 
--- All that was heard is told as far as it is decided, and the rest is held.
+-- What was heard before the held characters is told, in the sense of `Told`. `IsWaiting` says that the held ones decide nothing more.
 abbrev pub StandsFor : (List Dated → Type 0) → Bool → Listener → List Heard → Type 0
 StandsFor Told ended listener heard =
     Stands Told listener.past (date_from listener) listener.first (faultless listener.held) 0 ended heard
 
--- All that was heard is told as far as it is decided, in this list of dated sightings, and the rest is held.
+-- As in `StandsFor`, what was heard before the held characters is told, and it is this list of dated sightings.
 abbrev pub HasTold : Bool → Listener → List Heard → List Dated → Type 0
 HasTold ended listener heard list = StandsFor (λ told. told ≡ list) ended listener heard
 
--- Whatever was heard before, `more` was heard after it, and all that was decided then was told. If `ended` is true, nothing comes after it
--- in its stretch.
+-- Whatever was heard before, `more` was heard after it, and what comes before the characters that are then held was told. If `ended` is
+-- true, nothing comes after it in its stretch.
 abbrev pub Hears : {T W : Type 0} → ToldBetween T W → (old new : Listener) → List Heard → Bool → (before after : Moment T W) → Type 0
 Hears {T} {W} Told old new more ended before after = (start since : Moment T W) (heard : List Heard)
     → StandsFor (Told start since before) false old heard → StandsFor (Told start since after) ended new (heard ++ more)

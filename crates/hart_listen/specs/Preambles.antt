@@ -1,4 +1,4 @@
--- How many preamble bytes stand right before a message (implementation choice).
+-- How many preamble bytes stand right before a message, and all that is told of what was heard (implementation choice).
 use Rattle.std.specs.Prelude.{◌-◌, ◌++◌, ℕ, List, [], ◌∷◌, Option, None, Some, if◌then◌else◌, length, min, nat_le, nat_lt, replicate}
 use Rattle.std.specs.Prelude.{reverse, slice_index, take}
 use Rattle.std.specs.List.{flat_map, suffix_len}

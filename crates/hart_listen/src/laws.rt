@@ -41,8 +41,8 @@ use hart_frame::laws::{
 /// A listener tells each sighting as soon as it is decided, with its date, with what the messages before it say of it, and with the number
 /// of its preamble bytes.
 ///
-/// A listener that waits for more has told the decided sightings. At the end of what is heard, it has told all sightings. Each character of
-/// a text takes at least two bytes, so the places of what is held fit in 64 bits.
+/// A listener that waits for more has told the decided sightings. All calls but `hear_end` leave a listener waiting. `hear_end` leaves it
+/// with nothing held, and then it has told all sightings. Of a text, at most half as many characters are heard as it has bytes (`places`).
 pub fn listeners_tell_all_sightings()
     ensures decided { (listener : Listener) (heard : List Heard) (list : List Dated)
         → HasTold false listener heard list → IsWaiting listener
@@ -55,8 +55,8 @@ pub fn listeners_tell_all_sightings()
         → 2 * (listener.first + length listener.held) + length rest ≤ length text }
 {}
 
-/// What a call of a listener tells is told to its teller: if the teller was told all that the listener told before the call, it is told all
-/// that the listener told after the call.
+/// If a teller was told all that its listener has told when a call begins, this is also true when the call ends. At the start a caller has
+/// to show that `told` is true of the empty list.
 pub fn tellers_are_told_what_is_heard<W, T: Teller<W>>()
     ensures { (old new : Listener) (more : List Heard) (ended : Bool) (before after : Moment T W)
         → Hears T.told old new more ended before after
@@ -65,7 +65,7 @@ pub fn tellers_are_told_what_is_heard<W, T: Teller<W>>()
         → (all : List Dated) × HasTold ended new (heard ++ more) all × T.told start since after all }
 {}
 
-/// What was heard has exactly one list of sightings, and decides at most one.
+/// What was heard has exactly one list of sightings. At most one list is the list of those that it decides.
 pub fn heard_sightings_are_unambiguous()
     ensures one { (heard : List Heard) (xs ys : List Seen) → AreSightingsOf heard xs → AreSightingsOf heard ys → xs ≡ ys }
     ensures some { (heard : List Heard) → (seen : List Seen) × AreSightingsOf heard seen }

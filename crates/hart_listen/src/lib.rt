@@ -14,7 +14,7 @@
 //! - `item_reader`: what the reading of items takes.
 //! - `past`: what is kept of what was told and dropped.
 //! - `last_messages`: what later messages need of the earlier ones.
-//! - [`laws`]: what is proved about the definitions: a listener tells all that is decided.
+//! - [`laws`]: what is proved about the definitions: what a listener tells, and what an explanation of it says.
 //!
 //! No call of this crate allocates.
 #![tactic(auto)]

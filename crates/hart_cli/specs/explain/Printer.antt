@@ -45,7 +45,8 @@ pub record IsPrinted (style : Style) (start since : Stream) (printer : Printer) 
   pub style_is : printer.style ≡ style
   pub taken : HasTaken start since printer.page (flat_map (text_of style) list) writer
 
--- A printer took the text of these dated sightings, from the moment `start` on. `stream` gives the stream of a writer.
+-- A printer took the text of these dated sightings, from the moment `start` on. Since the moment `since`, bytes were only added to the
+-- stream. `stream` gives the stream of a writer.
 abbrev pub PrintedBetween : {W : Type 0} → (W → Stream) → ToldBetween Printer W
 PrintedBetween stream start since now list =
     IsPrinted start.teller.style (stream start.writer) (stream since.writer) now.teller (stream now.writer) list

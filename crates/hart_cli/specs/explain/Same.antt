@@ -1,4 +1,4 @@
--- What two calls write of the same input (implementation choice).
+-- What two calls write about the same input (implementation choice).
 use Rattle.std.specs.Prelude.{◌≡◌, ℕ, List, [], Option}
 use Rattle.hart_frame.specs.heard.Character.{Character}
 use Rattle.hart_frame.specs.heard.Frames.{AreFrames}
@@ -24,8 +24,8 @@ pub record AreOfSameMessages (input : List ℕ) (ending : Ending) (fault : Optio
   pub dumped : lines ≡ dump_text frames
   pub explained : text ≡ explanation undated [] (sightings chars 0 frames)
 
--- An explanation and JSON lines are about the same sightings: those in what was heard before the first fault, if any. Both have the same
--- order and the same dates.
+-- An explanation and JSON lines are about the same sightings: those in what was heard before the first fault, if any. Both have them in
+-- the same order, with the same dates.
 pub record AreOfSameSightings (decoding : Decoding (List Heard)) (input : List ℕ) (ending : Ending) (fault : Option CliFault)
     (text lines : List ℕ) : Type 0 where
   pub heard : List Heard

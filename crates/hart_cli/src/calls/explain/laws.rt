@@ -29,7 +29,7 @@ pub fn explanations_grow()
 /// `hart explain` and `hart explain --json` write about the same sightings. If both read an input equally far, they return the same fault,
 /// if any. Both have the same sightings in the same order, with the same dates. Each sighting has one text in the explanation, and one JSON
 /// line. At any moment, the same sightings are decided for both.
-pub fn json_tells_what_explain_tells()
+pub fn json_has_the_sightings_of_explain()
     ensures whole { (is_raw : Bool) (input : List ℕ) (ending : Ending) (f g : Option CliFault) (text lines : List ℕ)
         → IsExplanation Words is_raw input ending f text → IsExplanation Objects is_raw input ending g lines
         → (f ≡ g) × AreOfSameSightings (decoding_of is_raw) input ending g text lines }

@@ -11,7 +11,7 @@ use Rattle.hart_cli.specs.input.Input.{Ending}
 use Rattle.hart_cli.proofs.lemmas.explain.Grow.{one_heard}
 use Rattle.hart_listen.proofs.lemmas.Laws.{heard_sightings_are_unambiguous-decided, heard_sightings_are_unambiguous-one}
 use Rattle.hart_listen.proofs.lemmas.Laws.{words_leave_out_preamble_bytes}
-use Rattle.hart_cli.proofs.calls.explain.laws.json_tells_what_explain_tells.Goals as goal
+use Rattle.hart_cli.proofs.calls.explain.laws.json_has_the_sightings_of_explain.Goals as goal
 
 -- an explanation and JSON lines of the same things heard are about the same sightings
 same_sightings : (decoding : Decoding (List Heard)) (input : List ℕ) (ending : Ending) (xs ys : List Heard) (fault : Option CliFault)
