@@ -2,8 +2,8 @@
 """Runs the built program on the rows in tools/rows, on the calls of docs/worked.txt, and on the worked messages of docs/COMMANDS.md.
 
 Each run is the program itself, on streams that tools/cut_streams.c cuts short or lets fail as the check says. A run is held to its
-status, its output and its errors, and to the number of its reads or writes where the check counts them. hart_tests_cli tests the calls
-directly, which shows the numbers of faults; only the program shows `main` and real streams.
+status, its output and its errors, and to the number of its reads or writes where the check counts them. hart_tests_cli and
+hart_tests_station test the calls directly, which shows the numbers of faults; only the program shows `main` and real streams.
 
 Usage: tools/runs.py PROGRAM FOLDER; FOLDER has cut_streams.so, and takes the input of a run and its counts.
 """

@@ -1,4 +1,4 @@
-//! The tests of hart_cli, hart_station and hart_request.
+//! The tests of hart_cli and hart_listen. Some tests of hart_cli are in `hart_tests_station`.
 #![tactic(auto)]
 
 #[cfg(test)]

@@ -3,8 +3,7 @@
 //! `tools/refused-growths.sh` runs this test many times, and each time refuses a different allocation (a growth). So only the calls may
 //! allocate here: inputs are constants, and texts go into an array.
 
-use super::call::{Call, Named, USUAL, Words};
-use super::images::NEW;
+use hart_calls::{Call, NEW, Named, USUAL, Words};
 use hart_cli::Plain;
 use hart_device::{Device, FieldRegisters, bench};
 use hart_line::{LineEvent, LineFault, read_script, run};

@@ -1,8 +1,6 @@
 //! Calls on what was heard: `dump`, `explain` and `answer`.
 
-use super::call::Call;
-use super::calls::{EMPTY, Given, NONE, READ, Row, Wanted, does, does_as, hold_rows};
-use super::fakes::After;
+use hart_calls::{After, Call, EMPTY, Given, NONE, READ, Row, Wanted, does, does_as, hold_rows};
 use hart_cli::{Plain, Style, explain};
 use hart_rows::worked::{HEARD, OWN, OwnRow, REPLY, REQUEST};
 use hart_rows::{hold_ok, same, text_of};

@@ -1,9 +1,7 @@
 //! `explain` with `--json`.
 
-use super::call::Call;
-use super::calls::{NONE, READ, Row, hold_rows};
-use super::fakes::After;
 use super::heard::{IDENTIFY, IDENTIFY_WHOLE};
+use hart_calls::{After, Call, NONE, READ, Row, hold_rows};
 use std::test::Fail;
 
 const LINES: &[Row] = &[

@@ -1,10 +1,8 @@
 //! Inputs of the greatest length, longer inputs, and endless inputs.
 
-use super::call::Call;
-use super::calls::{EMPTY, Fault, Given, NONE, TOO_LONG, Wanted, does_by_name};
-use super::fakes::After;
 use super::heard::{IDENTIFY, IDENTIFY_LINE, IDENTIFY_SAID, IDENTIFY_WHOLE};
 use super::streams::{AS_NEW, Written};
+use hart_calls::{After, Call, EMPTY, Fault, Given, NONE, TOO_LONG, Wanted, does_by_name};
 use hart_cli::INPUT_LIMIT;
 use hart_rows::hold_ok;
 use std::alloc::Global;

@@ -2,8 +2,8 @@
 
 ghost use Rattle.std.specs.Prelude.{◌≡◌, IfOk};
 
-use super::call::Call;
 use super::streams::{WRITTEN, Written};
+use hart_calls::Call;
 use hart_cli::{DONE, Failed, Plain, Sink, Source, program};
 use hart_rows::{hold_ok, same};
 use std::alloc::Global;

@@ -1,8 +1,6 @@
 //! Tests of words that make no call, and of a failing writer for errors.
 
-use super::call::strings_of;
-use super::calls::{EMPTY, Given, Outcome, by_words};
-use super::fakes::Trickle;
+use hart_calls::{EMPTY, Given, Outcome, Trickle, by_words, strings_of};
 use hart_cli::{FAULT, NO_CALL};
 use hart_rows::hold_ok;
 use std::alloc::{AllocError, Global};

@@ -1,10 +1,10 @@
 //! Readers and writers that fail, and the order of reads and writes.
 
-use super::call::{Call, USUAL, Words};
-use super::calls::{EMPTY, Fault, Given, NONE, READ, WRITE, Wanted, does};
-use super::fakes::{ALL, After};
 use super::heard::{
     IDENTIFY, IDENTIFY_LINE, IDENTIFY_SAID, IDENTIFY_WHOLE, TWO_LINES, TWO_MESSAGES,
+};
+use hart_calls::{
+    ALL, After, Call, EMPTY, Fault, Given, NONE, READ, USUAL, WRITE, Wanted, Words, does,
 };
 use hart_rows::hold_ok;
 use std::alloc::Global;

@@ -1,8 +1,6 @@
 //! Tests of calls with an image.
 
-use super::call::Call;
-use super::calls::{EMPTY, Fault, Given, NONE, Row, Wanted, does, hold_rows};
-use super::fakes::After;
+use hart_calls::{After, Call, EMPTY, Fault, Given, NONE, Row, Wanted, does, hold_rows};
 use hart_rows::hold_ok;
 use std::alloc::Global;
 use std::test::Fail;
@@ -24,11 +22,6 @@ pub const CHANGED: &str = "010001\
 pub const COUNTED_TO_THE_END: &str = "010001\
     820820820820820820820820820820820820820820820820820820820820820820820820820820820820\
     000000000000FFFF00";
-
-/// The image of a new device.
-pub const NEW: &str = "020001\
-    820820820820820820820820820820820820820820820820820820820820820820820820820820820820\
-    0000000000002020202020202020202020202020202020202020202020202020202020202020000000";
 
 /// An image of version 1 of a new device, with flags that do not exist.
 const BAD_FLAGS: &str = "010001\

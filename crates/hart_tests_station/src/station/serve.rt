@@ -1,10 +1,7 @@
 //! Tests of `serve`: a device over many deliveries.
 
-use super::call::Call;
-use super::calls::{EMPTY, Fault, Given, NONE, READ, Row, Wanted, does, hold_rows};
-use super::fakes::After;
-use super::images::NEW;
 use super::sessions::{LongRow, hold_answers, hold_failed_writes, hold_long_rows};
+use hart_calls::{After, Call, EMPTY, Fault, Given, NEW, NONE, READ, Row, Wanted, does, hold_rows};
 use hart_cli::INPUT_LIMIT;
 use hart_rows::hold_ok;
 use std::test::Fail;

@@ -46,6 +46,11 @@ pub const USUAL: Asker = Asker {
     preambles: 20,
 };
 
+/// The image of a new device.
+pub const NEW: &str = "020001\
+    820820820820820820820820820820820820820820820820820820820820820820820820820820820820\
+    0000000000002020202020202020202020202020202020202020202020202020202020202020000000";
+
 /// A call and its arguments, but not its streams.
 #[derive(Clone, Copy)]
 pub enum Call<'a> {

@@ -1,7 +1,7 @@
 //! Makes a call on fake streams, by its function or by running `program` on the words of the command line.
 
-use super::call::Call;
-use super::fakes::{ALL, After, Tape, Trickle};
+use crate::call::Call;
+use crate::fakes::{ALL, After, Tape, Trickle};
 use hart_cli::{Sink, program};
 use hart_rows::hold_ok;
 use std::alloc::Global;
@@ -119,7 +119,7 @@ fn is_line(line: &[u8], text: &str) -> bool {
 }
 
 /// Makes a call by its function.
-pub fn by_name(alloc: Global, call: Call, given: &Given) -> Result<Outcome, Fail> {
+fn by_name(alloc: Global, call: Call, given: &Given) -> Result<Outcome, Fail> {
     let mut reader = given.reader();
     let mut output = given.writer(alloc);
     let mut said = Trickle::new(alloc, None, ALL);

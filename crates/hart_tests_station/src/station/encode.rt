@@ -1,7 +1,6 @@
 //! Tests of `encode`, which writes a message from words.
 
-use super::call::{Call, Words};
-use super::calls::{EMPTY, Fault, Given, NONE, Wanted, does};
+use hart_calls::{Call, EMPTY, Fault, Given, NONE, Wanted, Words, does};
 use hart_rows::{hold_ok, text_of};
 use std::alloc::Global;
 use std::test::Fail;

@@ -2,8 +2,7 @@
 
 mod refused;
 
-use super::call::{Call, Named};
-use super::calls::{EMPTY, Fault, Given, NONE, Wanted, does};
+use hart_calls::{Call, EMPTY, Fault, Given, NONE, Named, Wanted, does};
 use hart_rows::hold_ok;
 use std::alloc::Global;
 use std::test::Fail;

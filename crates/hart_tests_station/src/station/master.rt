@@ -1,9 +1,9 @@
 //! Tests of `master`: a master over many lines.
 
-use super::call::{Asker, Call, USUAL};
-use super::calls::{EMPTY, Fault, Given, NONE, READ, Row, Wanted, does, hold_rows};
-use super::fakes::After;
 use super::sessions::{LongRow, hold_answers, hold_failed_writes, hold_long_rows};
+use hart_calls::{
+    After, Asker, Call, EMPTY, Fault, Given, NONE, READ, Row, USUAL, Wanted, does, hold_rows,
+};
 use hart_cli::INPUT_LIMIT;
 use hart_rows::hold_ok;
 use std::alloc::AllocError;

@@ -1,9 +1,7 @@
 //! Scripts that `simulate` carries out.
 
-use super::call::Call;
-use super::calls::{NONE, Row, does_as, hold_rows};
-use super::fakes::After;
 use super::images::{CHANGED, COUNTED_TO_THE_END};
+use hart_calls::{After, Call, NONE, Row, does_as, hold_rows};
 use hart_rows::hold_ok;
 use hart_rows::scripts::*;
 use std::alloc::{AllocError, Global};

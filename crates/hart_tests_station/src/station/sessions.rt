@@ -1,9 +1,7 @@
 //! Shared parts of the tests of `serve` and of `master`. Both calls answer lines. Both are tested in the same way on long lines, on many
 //! lines and on writes that fail.
 
-use super::call::Call;
-use super::calls::{EMPTY, Given, NONE, WRITE, Wanted, does, does_by_name};
-use super::fakes::ALL;
+use hart_calls::{ALL, Call, EMPTY, Given, NONE, WRITE, Wanted, does, does_by_name};
 use hart_rows::hold_ok;
 use std::alloc::Global;
 use std::test::Fail;
