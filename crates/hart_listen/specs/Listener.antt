@@ -62,7 +62,7 @@ abbrev pub StandsFor : (List Dated → Type 0) → Bool → Listener → List He
 StandsFor Told ended listener heard =
     Stands Told listener.past (date_from listener) listener.first (faultless listener.held) 0 ended heard
 
--- As in `StandsFor`, what was heard before the held characters is told, and it is this list of dated sightings.
+-- The same for a listener alone: of what was heard before the held characters, it has told exactly this list of dated sightings.
 abbrev pub HasTold : Bool → Listener → List Heard → List Dated → Type 0
 HasTold ended listener heard list = StandsFor (λ told. told ≡ list) ended listener heard
 

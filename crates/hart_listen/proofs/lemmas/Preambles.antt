@@ -67,7 +67,7 @@ last_all (suc n) =
     let more : 1 + n ≡ suc n = omega arith in
     rw (append-nil, replicate_pushed n intact) (last_pushed (replicate n intact) intact ∙ (ap (λ k. 1 + k) last ∙ more))
 
--- a number of preamble bytes stands for characters that end with so many
+-- characters that come before others may be replaced by the preamble bytes that they end with
 pub kept_before : (preambles : ℕ) (before more : List Character) → preambles ≡ last_preambles before
     → last_preambles (after_preambles preambles more) ≡ last_preambles (before ++ more)
 kept_before preambles before more is =

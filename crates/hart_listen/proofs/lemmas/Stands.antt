@@ -219,7 +219,7 @@ ended_seen earlier told chars seen are_told are =
     seen_on 0 earlier (chars ∷ []) told (map (moved_seen (total earlier)) seen) are_told
     (rw (zero_plus (total earlier)) (seen, are, [], refl, sym (append-nil _)))
 
--- if no characters are held any more, all sightings of the last stretch are told
+-- once a stretch has ended and nothing of it is held, all its sightings are told
 all_told : (Told : List Dated → Type 0) (past : Past) (date : ℕ → List ℕ) (first : ℕ) (heard : List Heard)
     → (s : Stands Told past date first [] 0 true heard) → (s.base ≡ length s.chars) × AreSightings s.chars 0 s.seen
 all_told Told past date first heard s =

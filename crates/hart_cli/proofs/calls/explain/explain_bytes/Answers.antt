@@ -69,7 +69,7 @@ heard g c =
     (prints_page false c.args.style _ _ c.hear_bytes.new.self _ _ _ _ _ refl c.write.ensures.takes prints)
     c.hear_bytes.ensures.waiting
 
--- as many characters were heard as bytes were read
+-- each byte of a raw input is one character
 places : (g : Over) (c : After-write g)
     → c.hear_bytes.new.self.first + length c.hear_bytes.new.self.held ≡ c.loop-end.read + c.read_portion-portion.result.len
 places g c =
