@@ -4,8 +4,8 @@
 #   - Scripts that need neither the program nor the library come first.
 #   - `rt ci` proves every crate from scratch, with its tests, and runs the program and the tests. It works on a copy of the crates
 #     without their wrong bodies, since it would prove a crate once more for its first wrong body.
-#   - Beside it, at a lower priority, the library for C is built in the tree, and then tools/mistakes.py tries the wrong bodies whose
-#     refusal may have changed, and a sample of the others. Its own test, scripts that need no program, and scripts on the library follow.
+#   - Beside it, at a lower priority, the library for C is built in the tree. Then tools/mistakes.py tries the wrong bodies whose refusal
+#     may have changed, and a sample of the others. Scripts that need no program run beside that, and scripts on the library follow.
 #   - As soon as `rt ci` has built the program, scripts run on it side by side, beside the proofs of the tests. Scripts that need these
 #     tests or measure times come at the end.
 #
@@ -23,6 +23,8 @@ touch "$work/passed" "$work/failed"
 log=build/logs/ci.log
 program=$work/tree/crates/hart/out/hart
 tests=$work/tree/crates/hart_tests_cli/out/hart_tests_cli_tests
+library=$work/library
+arm=aarch64-linux-gnu
 passed=0
 failed=0
 
@@ -36,14 +38,14 @@ lanes() {
     fi
 }
 
-# Runs one script, and prints what it said, once it has ended.
+# Runs one script, and prints what it said, once it has ended, with its time and what it used of the processors.
 run() {
-    local name=${1//$work\/tree\/} said start=$SECONDS status=0
+    local name=${1//$work\//} said took status=0 TIMEFORMAT='%0R s, of processors %0U s user, %0S s system'
     said=$(mktemp -p "$work/said")
-    bash -c "$1" >"$said" 2>&1 </dev/null || status=$?
+    took=$({ time bash -c "$1" >"$said" 2>&1 </dev/null; } 2>&1) || status=$?
     {
         flock 9
-        echo "== $name: $((SECONDS - start)) s"
+        echo "== $name: $took"
         cat "$said"
         if [ "$status" -eq 0 ]; then
             echo "$name" >>"$work/passed"
@@ -76,12 +78,14 @@ until_built() {
 beside() {
     renice -n 10 "$BASHPID" >/dev/null
     python3 tools/build.py --jobs "$(lanes)" hart_c && (cd crates/hart_c && rt lib --jobs "$(lanes)") >build/logs/hart_c.log 2>&1
-    RT_JOBS=2 python3 tools/mistakes.py --gate
+    # The next scripts copy what this one changes.
+    run_all "$libraries"
+    RT_JOBS=2 python3 tools/mistakes.py --gate >"$work/gate" 2>&1 &
     run_all "python3 tools/mistakes.py --can-fail" "sh tools/held-view.sh" "python3 tools/vector_bugs.py"
+    cat "$work/gate"
     until_built
-    # These run one after the other: each builds the library, and a crate is built for one target at a time.
-    run_on_program "sh tools/library-examples.sh $program && sh tools/library-examples.sh --target aarch64-linux-gnu $program && \
-sh tools/packages.sh $program && sh examples/cortex-m/run.sh"
+    run_on_program "sh tools/library-examples.sh $program $library" \
+        "sh tools/library-examples.sh --target $arm $program $library/$arm" "sh tools/packages.sh $program $library \$(find $library -name $arm)"
 }
 
 # Runs scripts on the program. Without a program each of them counts as failed.
@@ -89,9 +93,13 @@ run_on_program() {
     if [ -x "$program" ]; then
         run_all "$@"
     else
-        printf '%s: FAILED; there is no program\n' "${@//$work\/tree\/}" >>"$work/failed"
+        printf '%s: FAILED; there is no program\n' "${@//$work\//}" >>"$work/failed"
     fi
 }
+
+# A crate is built for one target at a time, so one script builds the library for each of them.
+libraries="mkdir -p $library && if command -v $arm-gcc >/dev/null; then mkdir $library/$arm && sh tools/library.sh --target $arm $library/$arm; fi && \
+sh examples/cortex-m/run.sh && sh tools/library.sh $library"
 
 rt version
 run_all "sh tools/kits.sh" "python3 tools/links.py" "python3 tools/doc_examples.py" "python3 tools/named.py"
@@ -109,7 +117,7 @@ tar -cf - --exclude=out --exclude=must-fail --exclude=mistakes crates crates.txt
 : >"$log"
 touch "$work/proving"
 beside >"$work/beside" 2>&1 </dev/null &
-(until_built && run_on_program "${scripts[@]}") >"$work/on_program" 2>&1 </dev/null &
+(renice -n 10 "$BASHPID" >/dev/null && until_built && run_on_program "${scripts[@]}") >"$work/on_program" 2>&1 </dev/null &
 (cd "$work/tree" && rt ci) 2>&1 | tee "$log" | grep --line-buffered -E '^rt: |NOT PROVED|passed, .* failed|\berror\b'
 [ "${PIPESTATUS[0]}" -eq 0 ] || echo "rt ci: FAILED; what was not proved stands in $log" >>"$work/failed"
 rm "$work/proving"

@@ -7,8 +7,9 @@
 #
 # A C compiler and Python are needed. C++ and Rust are tried where they are found, and so are the sanitizers of the C compiler.
 #
-# Usage: tools/library-examples.sh [--target TARGET] [PROGRAM]; PROGRAM is the ./hart of the repository if absent. With a target, the
-# programs in C and C++ are built for it and run under qemu. Without qemu or the target's compiler a line says so, and nothing is done.
+# Usage: tools/library-examples.sh [--target TARGET] [PROGRAM [LIBRARY]]; PROGRAM is the ./hart of the repository if absent. LIBRARY is a
+# folder with libhart.a and libhart.so.0; if absent, both are built. With a target, the programs in C and C++ are built for it and run
+# under qemu. Without qemu or the target's compiler a line says so, and nothing is done.
 set -eu
 target=
 if [ "${1:-}" = --target ]; then
@@ -16,6 +17,7 @@ if [ "${1:-}" = --target ]; then
     shift 2
 fi
 program=$(realpath "${1:-$(dirname "$0")/../hart}")
+library=${2:+$(realpath "$2")}
 cd "$(dirname "$0")/.."
 work=$(mktemp -d)
 trap 'rm -rf "$work"' EXIT
@@ -33,7 +35,10 @@ sanitized='-fsanitize=address,undefined -fno-sanitize-recover=all'
 [ -z "$target" ] || sanitized='-fsanitize=undefined -fno-sanitize-recover=all'
 
 python3 tools/header.py
-sh tools/library.sh ${target:+--target "$target"} "$work"
+if [ -z "$library" ]; then
+    library=$work
+    sh tools/library.sh ${target:+--target "$target"} "$library"
+fi
 
 # The calls that a file in C names.
 calls_in() {
@@ -43,7 +48,7 @@ calls_in() {
 defined=$(grep -E '^static inline' include/hart.h | grep -oE '\bhart_[a-z_]+\(' | tr -d '(' | sort -u)
 named=$(calls_in include/hart.h)
 declared=$(printf '%s\n' "$named" | grep -vxF "$defined")
-offered=$("${target:+$target-}nm" -D --defined-only "$work/libhart.so" | awk '{ print $3 }' | sort)
+offered=$("${target:+$target-}nm" -D --defined-only "$library/libhart.so" | awk '{ print $3 }' | sort)
 if [ "$offered" != "$declared" ]; then
     echo "libhart.so offers other calls than include/hart.h declares:" >&2
     printf '%s\n' "$offered" >&2
@@ -67,18 +72,18 @@ emulate() {
 build() {
     source=$1
     shift
-    $cc -std=c11 $strict "$@" -Iinclude "$source" "$work/libhart.a" -o "$work/$(basename "$source" .c)" &&
+    $cc -std=c11 $strict "$@" -Iinclude "$source" "$library/libhart.a" -o "$work/$(basename "$source" .c)" &&
         emulate "$(basename "$source" .c)"
 }
 # Builds a program on the shared library; its name ends with _shared.
 build_shared() {
-    $cc -std=c11 $strict -Iinclude "$1" -L"$work" -lhart -o "$work/$(basename "$1" .c)_shared" && emulate "$(basename "$1" .c)_shared"
+    $cc -std=c11 $strict -Iinclude "$1" -L"$library" -lhart -o "$work/$(basename "$1" .c)_shared" && emulate "$(basename "$1" .c)_shared"
 }
 
 build tools/library_calls.c
 "$work/library_calls"
 build_shared tools/library_calls.c
-LD_LIBRARY_PATH="$work" "$work/library_calls_shared"
+LD_LIBRARY_PATH="$library" "$work/library_calls_shared"
 echo "each call of the library did what tools/library_calls.c says"
 
 # The examples in C of docs/LIBRARY.md, in one program, which checks what each does.
@@ -139,7 +144,7 @@ build examples/c/messages.c
 hold "$work/messages"
 build_shared examples/c/messages.c
 readelf -d "$work/messages_shared${target:+.$target}" | grep -qF '[libhart.so.0]'
-hold env LD_LIBRARY_PATH="$work" "$work/messages_shared"
+hold env LD_LIBRARY_PATH="$library" "$work/messages_shared"
 build examples/c/device.c
 talk
 echo 'int main(void) { return 0; }' >"$work/nothing.c"
@@ -169,14 +174,14 @@ request, Command 11, read unique identifier associated with tag, too few data by
 request, Command 19, write final assembly number, success
     final assembly number: 01 23 45
 FIELDS
-$cc -std=c11 $strict -Iinclude examples/c/fields.c "$work/libhart.a" -o "$work/fields_c"
+$cc -std=c11 $strict -Iinclude examples/c/fields.c "$library/libhart.a" -o "$work/fields_c"
 emulate fields_c
 printf '%s' FFFF86B7420A1B2C010700202041C80000C1 FFFFE28000000000AABBCC0B01FF4A FFFF82B7420A1B2C13030123453D |
     xxd -r -p >"$work/replies_heard"
 "$work/fields_c" <"$work/replies_heard" >"$work/fields_written"
 cmp "$work/fields" "$work/fields_written"
 if "$cxx" --version >"$work/said" 2>&1; then
-    $cxx -std=c++17 $strict -Iinclude examples/cpp/messages.cpp "$work/libhart.a" -o "$work/messages_cpp"
+    $cxx -std=c++17 $strict -Iinclude examples/cpp/messages.cpp "$library/libhart.a" -o "$work/messages_cpp"
     emulate messages_cpp
     hold "$work/messages_cpp"
 else
@@ -185,16 +190,16 @@ fi
 if [ -n "$target" ]; then
     echo "the examples in Rust and Python were not run for $target"
 elif cargo --version >"$work/said" 2>&1; then
-    HART_LIB_DIR=$work CARGO_TARGET_DIR=$work/rust RUSTFLAGS='-D warnings' \
+    HART_LIB_DIR=$library CARGO_TARGET_DIR=$work/rust RUSTFLAGS='-D warnings' \
         cargo build --quiet --release --offline --manifest-path examples/rust/Cargo.toml
     hold "$work/rust/release/messages"
 else
     echo "no cargo: the example in Rust was not run"
 fi
 if [ -z "$target" ]; then
-    hold python3 examples/python/messages.py "$work/libhart.so"
-    python3 examples/python/vectors.py "$work/libhart.so" <docs/vectors.tsv
-    python3 tools/bench.py "$program" --library "$work"
+    hold python3 examples/python/messages.py "$library/libhart.so"
+    python3 examples/python/vectors.py "$library/libhart.so" <docs/vectors.tsv
+    python3 tools/bench.py "$program" --library "$library"
     ran=$((ran + 1))
 fi
 echo "$ran examples of the library did what the program does${target:+, under $qemu}"
