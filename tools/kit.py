@@ -51,6 +51,17 @@ def crates_in(text):
     return found
 
 
+def commit():
+    """The name of the commit, by which a run chooses; another one each time if it has none."""
+    ran = subprocess.run(["git", "-C", ROOT, "rev-parse", "HEAD"], capture_output=True, text=True, check=False)
+    return ran.stdout.strip() or os.urandom(8).hex()
+
+
+def keeps_proofs(name):
+    """Whether the tree keeps the proofs of a crate, from a check of it."""
+    return os.path.isdir(f"{ROOT}/crates/{name}/out")
+
+
 @functools.cache
 def version():
     """The kit of the toolchain, in one word."""

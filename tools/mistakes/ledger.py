@@ -4,10 +4,9 @@ that rests. What has another digest, or no line, is tried; the gate also tries s
 import functools
 import os
 import re
-import subprocess
 from typing import NamedTuple
 
-from kit import ROOT, text_of, version
+from kit import ROOT, commit, text_of, version
 from mistakes.edits import BadEdit, Edit, wrong_body
 from mistakes.rests import Rests, rules, sum_of
 
@@ -75,12 +74,6 @@ class Ledger:
             kits = ", ".join(sorted(others))
             print(f"mistakes: mistakes.lock was written with {kits}, and this is {self.kit}: one in ten is tried again")
         return sample(names, 10 if others else 20, commit())
-
-
-def commit():
-    """The name of the commit, by which a run chooses; another one each time if it has none."""
-    ran = subprocess.run(["git", "-C", ROOT, "rev-parse", "HEAD"], capture_output=True, text=True, check=False)
-    return ran.stdout.strip() or os.urandom(8).hex()
 
 
 def sample(names, each, seed):

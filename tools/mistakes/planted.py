@@ -10,11 +10,11 @@ import os
 import random
 import re
 
-from kit import copied, side_by_side, text_of
+from kit import commit, copied, side_by_side, text_of
 from mistakes import definitions
 from mistakes.bodies import batches_of, judged, texts_of
 from mistakes.edits import BadEdit, Change, edit_of, replaced, stanzas, wrong_body
-from mistakes.ledger import Entry, Ledger, commit, sample
+from mistakes.ledger import Entry, Ledger, sample
 from mistakes.rests import Rests
 from mistakes.verdicts import Verdict
 
