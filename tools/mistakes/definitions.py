@@ -1,8 +1,8 @@
 """Tries a wrong variant of each definition that a reader believes: a proof has to fail by it.
 
 A variant changes a definition of `specs/` alone: a number is one off, a case is dropped, two parts are exchanged. Several are planted at
-once in a copy of their crate, each with places, which are functions or lemmas, that rest on it and on no other variant that is planted.
-One that these places do not refuse is tried beside others again, then alone, with its whole crate, and at last with crates above."""
+once in a copy of their crate, each with places, which are functions or lemmas, that rest on it and on no other variant that is planted:
+the one that mistakes.lock names, then others. One that these do not refuse is tried alone, with its whole crate and with crates above."""
 
 import os
 import re
@@ -10,6 +10,7 @@ from collections import Counter
 from typing import NamedTuple
 
 from kit import copied, side_by_side, text_of
+from mistakes.ledger import entries
 from mistakes.places import places_of, why_unread
 from mistakes.rests import Rests, Walk
 from mistakes.verdicts import Verdict
@@ -98,10 +99,12 @@ def variants(tree, table):
 
 class Trial:
     """The variants that are left, and the places of the crate `name`, theirs or one above, that can refuse them: functions and lemmas.
-    `cones` has the variants on which each rests, `checked` the function to check: itself, or for a lemma one whose proof reads its file."""
+    `cones` has the variants on which each rests, `checked` the function to check: itself, or for a lemma one whose proof reads its file.
+    `known` has the place that refused a variant the last time."""
 
     def __init__(self, tree, base, name, variants):
         self.tree, self.base, self.crate, self.left, self.tried = tree, base, tree.crate(name), dict(variants), Counter()
+        self.known = {it: entry.where.partition(", ")[0] for it, entry in entries().items()}
         by_key, rests = {it.place: it.name for it in variants.values()}, Rests(tree, name)
         self.cones, self.checked, read = {}, {}, {it: self.crate.modules_read_with(it) for it in self.crate.functions.values()}
         for function in sorted(read, key=lambda it: (it.file == "src/laws.rt", len(read[it]))):
@@ -111,11 +114,12 @@ class Trial:
                 self.cones[place] = {by_key[it[:2]] for it in Walk(rests, rests.starts_at(place), True).reached if it[:2] in by_key}
 
     def resting_on(self, name):
-        """The places that rest on a variant, those first that rest on the fewest that are left."""
-        return sorted((it for it, cone in self.cones.items() if name in cone), key=lambda it: len(self.cones[it] & self.left.keys()))
+        """The places that rest on a variant: the known one, and then those first that rest on the fewest that are left."""
+        fit = (it for it, cone in self.cones.items() if name in cone)
+        return sorted(fit, key=lambda it: (it != self.known.get(name), len(self.cones[it] & self.left.keys())))
 
     def chosen(self, names, few):
-        """Those of these variants that can be planted at once, each with a few untried places that rest on it alone among them."""
+        """Those of these variants that can be planted at once, each with untried places of its own: the known one, or a few others."""
         often, found, blocked = Counter(name for cone in self.cones.values() for name in cone), {}, set()
         for name in sorted(names, key=lambda it: often[it]):
             fit = [] if name in blocked else [it for it in self.resting_on(name) if not self.tried[name, it]]
@@ -123,7 +127,8 @@ class Trial:
             if place:
                 found[name] = fit
                 blocked |= self.cones[place]
-        return {name: [it for it in fit if self.cones[it] & found.keys() == {name}][:few] for name, fit in found.items()}
+        alone = {name: [it for it in fit if self.cones[it] & found.keys() == {name}] for name, fit in found.items()}
+        return {name: fit[: 1 if fit[0] == self.known.get(name) else few] for name, fit in alone.items()}
 
     def planned(self, few, most):
         """Returns groups of variants to plant together, largest first. Variants tried at fewer than `most` places get up to `few` more."""
@@ -177,11 +182,12 @@ class Trial:
 
 
 def tried(tree, variants):
-    """Yields the name of each variant, the places that refuse it and a verdict, as they are decided."""
+    """Yields the name of each variant, the places that refuse it and a verdict, as they are decided. The longest crates come first."""
     of_crates = {}
     for it in variants:
         of_crates.setdefault(it.crate, {})[it.name] = it
     above = {name: [it.name for it in tree.crates.values() if name in it.below] for name in of_crates}
+    order = sorted(of_crates.items(), key=lambda it: -len(it[1]))
     with copied(tree.crates) as base:
-        for name, where, why in side_by_side(lambda it=it: Trial(tree, base, *it).all(above[it[0]]) for it in of_crates.items()):
+        for name, where, why in side_by_side(lambda it=it: Trial(tree, base, *it).all(above[it[0]]) for it in order):
             yield name, ", ".join(where[:3]), Verdict(("",) if where else (), why)
