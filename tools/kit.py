@@ -57,11 +57,6 @@ def commit():
     return ran.stdout.strip() or os.urandom(8).hex()
 
 
-def keeps_proofs(name):
-    """Whether the tree keeps the proofs of a crate, from a check of it."""
-    return os.path.isdir(f"{ROOT}/crates/{name}/out")
-
-
 @functools.cache
 def version():
     """The kit of the toolchain, in one word."""

@@ -5,9 +5,8 @@ Usage: tools/mistakes.py [--definitions] [--gate | --all | --list] [CRATE | NAME
        tools/mistakes.py --can-fail | --against-rattle
 
 It tries those without a valid line in mistakes.lock, and writes their lines. A line is valid until something changes on which the refusal
-rests. What is named is tried in any case. `--gate` also tries some of the others, chosen by the commit, in crates of which the tree keeps
-proofs, since elsewhere it would have to prove the crate first. It writes nothing. `--all` tries all, and `--list` only prints which would
-be tried. `--definitions` tries wrong definitions in place of wrong bodies.
+rests. What is named is tried in any case. `--gate` also tries some of the others, chosen by the commit, and writes nothing. `--all` tries
+all, and `--list` only prints which would be tried. `--definitions` tries wrong definitions in place of wrong bodies.
 
 `--can-fail` shows that edits that are no wrong bodies make a run fail, and that a refusal is tried again after each change on which it
 rests. `--against-rattle` makes changes at random, and shows that each function that the prover checks again has another digest."""
@@ -16,7 +15,6 @@ import argparse
 import resource
 import sys
 
-from kit import keeps_proofs
 from mistakes import bodies, definitions, planted
 from mistakes.edits import every_edit
 from mistakes.ledger import Ledger
@@ -33,7 +31,7 @@ def chosen_of(ledger, asked, words):
         return asked
     said = {name: ledger.said[name] for name in asked if name in ledger.said}
     known = {name for name, it in said.items() if it.digest == ledger.digest(asked[name], it.where) != ""}
-    again = ledger.sampled({it for it in known if keeps_proofs(asked[it].crate)}) if words.gate else set()
+    again = ledger.sampled(known) if words.gate else set()
     print(f"mistakes: mistakes.lock answers for {len(known)} of {len(asked)}, and {len(again)} of these are tried again", flush=True)
     return {name: it for name, it in asked.items() if name not in known - again}
 

@@ -4,8 +4,9 @@ Alone, a wrong body takes 15 to 90 seconds of processor time; in a batch it take
 
 import contextlib
 import functools
+import os
 
-from kit import COPYING, copied, keeps_proofs, side_by_side
+from kit import COPYING, ROOT, copied, side_by_side
 from mistakes.edits import BadEdit, apply, wrong_body
 from mistakes.verdicts import Verdict, unread, verdict_of
 
@@ -66,7 +67,7 @@ def tasks_of(tree, base, of_crates):
         if not said.endswith("only=0 proved=0"):
             raise SystemExit(f"mistakes: the libraries below {name} are not built: {said.rpartition(chr(10))[2]}")
         batches = batches_of(of_crates[name], tree.crate(name))
-        for some in [[it] for it in batches] if keeps_proofs(name) else [batches]:
+        for some in [[it] for it in batches] if os.path.isdir(f"{ROOT}/crates/{name}/out") else [batches]:
             yield functools.partial(judged_in_turn, base, tree.crate(name), some)
 
 
