@@ -78,8 +78,14 @@ until_built() {
 beside() {
     renice -n 10 "$BASHPID" >/dev/null
     python3 tools/build.py --jobs "$(lanes)" hart_c && (cd crates/hart_c && rt lib --jobs "$(lanes)") >build/logs/hart_c.log 2>&1
-    # The next scripts copy what this one changes.
-    run_all "$libraries"
+    # These run one after the other, since a crate is built for one target at a time, and the scripts after them copy what they change.
+    mkdir "$library"
+    if command -v "$arm-gcc" >/dev/null; then
+        mkdir "$library/$arm"
+        run "sh tools/library.sh --target $arm $library/$arm"
+    fi
+    run "sh examples/cortex-m/run.sh"
+    run "sh tools/library.sh $library"
     RT_JOBS=2 python3 tools/mistakes.py --gate >"$work/gate" 2>&1 &
     run_all "python3 tools/mistakes.py --can-fail" "sh tools/held-view.sh" "python3 tools/vector_bugs.py"
     cat "$work/gate"
@@ -96,10 +102,6 @@ run_on_program() {
         printf '%s: FAILED; there is no program\n' "${@//$work\//}" >>"$work/failed"
     fi
 }
-
-# A crate is built for one target at a time, so one script builds the library for each of them.
-libraries="mkdir -p $library && if command -v $arm-gcc >/dev/null; then mkdir $library/$arm && sh tools/library.sh --target $arm $library/$arm; fi && \
-sh examples/cortex-m/run.sh && sh tools/library.sh $library"
 
 rt version
 run_all "sh tools/kits.sh" "python3 tools/links.py" "python3 tools/doc_examples.py" "python3 tools/named.py"
