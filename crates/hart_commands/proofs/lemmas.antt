@@ -6,5 +6,4 @@ pub mod Reply
 pub mod RequestMade
 pub mod FieldWidths
 pub mod Laws
-pub mod RequestFields
 pub mod WellMade

@@ -13,11 +13,10 @@ use Rattle.hart_commands.specs.declared.request.Request.{Request}
 use Rattle.hart_commands.specs.declared.request.Request.TheVariants as requests
 use Rattle.hart_commands.specs.Fields.{Row, field, seen, text, total}
 use Rattle.hart_commands.specs.Fields as fields
-use Rattle.hart_commands.specs.OutputBytes.{output_of}
+use Rattle.hart_commands.specs.Groups.{output_of, sensor_of}
 use Rattle.hart_commands.specs.ReplyReading.{saying, current_of, polling_of, tag_of, identity_reading, dynamic_reading, variables_reading}
 use Rattle.hart_commands.specs.ReplyReading.{more_reading}
 use Rattle.hart_commands.specs.RequestReading.{Reading, needing, polling_reading, codes_reading, tag_reading, reset_reading}
-use Rattle.hart_commands.specs.SensorBytes.{sensor_of}
 use Rattle.hart_commands.specs.Values.{unit_value_of}
 
 -- How the data of a request are read. `Always`: the request is always the same. `Needing`: the bytes that the command needs determine the

@@ -1,13 +1,9 @@
-pub mod TagBytes
 pub mod FirstBytes
 pub mod RequestReading
 pub mod Values
-pub mod IdentityBytes
-pub mod SensorBytes
-pub mod OutputBytes
+pub mod Groups
 pub mod ReplyReading
 pub mod Commands
-pub mod NeededData
 pub mod RequestData
 pub mod RequestCode
 pub mod Registers

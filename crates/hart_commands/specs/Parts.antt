@@ -8,9 +8,7 @@ use Rattle.hart_commands.specs.declared.content.ReplyContent.{ReplyContent}
 use Rattle.hart_commands.specs.declared.content.ReplyContent.TheVariants as contents
 use Rattle.hart_commands.specs.declared.request.Request.{Request}
 use Rattle.hart_commands.specs.declared.request.Request.TheVariants as requests
-use Rattle.hart_commands.specs.IdentityBytes.{identity_parts}
-use Rattle.hart_commands.specs.OutputBytes.{output_parts}
-use Rattle.hart_commands.specs.SensorBytes.{sensor_parts}
+use Rattle.hart_commands.specs.Groups.{identity_parts, output_parts, sensor_parts}
 use Rattle.hart_commands.specs.Values.{joined, one, unit_value_parts, variable_bytes}
 
 -- The parts of a content. All device variables of Command 9 together are one part.

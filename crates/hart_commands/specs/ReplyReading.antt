@@ -5,9 +5,8 @@ use Rattle.std.specs.Simd.{first_chunks}
 use Rattle.hart_commands.specs.declared.content.ReplyContent.{ReplyContent}
 use Rattle.hart_commands.specs.declared.content.ReplyContent.TheVariants.{Identity, Current, Dynamic, Polling, Variables, Tag, More}
 use Rattle.hart_commands.specs.FirstBytes.{having}
-use Rattle.hart_commands.specs.TagBytes.{tag_in, descriptor_in, date_in}
+use Rattle.hart_commands.specs.Groups.{tag_in, descriptor_in, date_in, identity_of}
 use Rattle.hart_commands.specs.Values.{float_at, unit_value_of, variable_of}
-use Rattle.hart_commands.specs.IdentityBytes.{identity_of}
 
 -- The content that the first `size` bytes determine. With fewer bytes there is no content.
 abbrev pub saying : ℕ → (List ℕ → ReplyContent) → List ℕ → Option ReplyContent

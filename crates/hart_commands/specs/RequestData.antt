@@ -1,5 +1,6 @@
--- What the data bytes of a request ask for, and which requests are well made (HCF_SPEC-127).
+-- How many data bytes a command needs, what those of a request ask for, and which requests are well made (HCF_SPEC-127).
 use Rattle.std.specs.Prelude.{ℕ, ◌≡◌, ◌<◌, ◌≤◌, ◌⊎◌, List, [], length, Err, Option, Some, None}
+use Rattle.std.specs.Option.{option_map_or}
 use Rattle.hart_values.specs.hart_date.Calendar.{IsDateBytes}
 use Rattle.hart_commands.specs.declared.request.Request.{Request}
 use Rattle.hart_commands.specs.declared.request.Request.TheVariants.{SetPolling, ReadVariables, IdentifyByTag, WriteMessage, WriteTag}
@@ -8,6 +9,15 @@ use Rattle.hart_commands.specs.Commands.{CommandRow, asked, command_row}
 pub use Rattle.hart_commands.specs.Commands.{is_known, command_of}
 pub use Rattle.hart_commands.specs.Parts.{mode_byte, request_data}
 pub use Rattle.hart_commands.specs.RequestReading.{Reading}
+
+-- The number of data bytes that a command needs: the number in its row, or 0 if it has no row.
+abbrev pub needed_data : ℕ → ℕ
+needed_data number = option_map_or (λ row. row.command.needed) (command_row number) 0
+
+-- Data are too few if they have fewer bytes than their command needs. There is one exception: the data of Command 38 may be empty, and then
+-- name no counter.
+abbrev pub AreTooFew : ℕ → List ℕ → Type 0
+AreTooFew command bytes = (length bytes < needed_data command) × (command ≡ 38 → 0 < length bytes)
 
 -- The request in some data, read as this row of the table says. Without a row, the data are refused with code 64.
 abbrev pub read_by : Option CommandRow → List ℕ → Reading

@@ -4,7 +4,7 @@ use Rattle.std.specs.Prelude.{ℕ, ◌+◌, ◌*◌, ◌==◌, nat_lt, if◌then
 use Rattle.hart_values.specs.declared.loop_mode.LoopMode.TheVariants.{Disabled, Enabled}
 use Rattle.hart_values.specs.hart_date.Calendar.{is_date}
 use Rattle.hart_commands.specs.FirstBytes.{having}
-use Rattle.hart_commands.specs.TagBytes.{tag_in, descriptor_in, date_in}
+use Rattle.hart_commands.specs.Groups.{tag_in, descriptor_in, date_in}
 use Rattle.hart_commands.specs.declared.request.Request.{Request}
 use Rattle.hart_commands.specs.declared.request.Request.TheVariants.{SetPolling, ReadVariables, WriteTag, ResetChanged}
 

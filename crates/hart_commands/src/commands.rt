@@ -3,7 +3,7 @@
 ghost use Rattle.std.specs.Prelude.{◌≡◌, ◌==◌, find, map, option_map};
 ghost use Rattle.hart_commands.specs.Commands.{command_name, is_known, known, may_be_broadcast, reply_rows, request_rows, seen_command};
 ghost use Rattle.hart_commands.specs.Fields.{seen};
-ghost use Rattle.hart_commands.specs.NeededData.{needed_data};
+ghost use Rattle.hart_commands.specs.RequestData.{needed_data};
 ghost use Rattle.hart_commands.specs.RequestCode.{is_write};
 
 use crate::FieldRow;

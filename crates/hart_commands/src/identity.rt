@@ -1,5 +1,5 @@
 ghost use Rattle.std.specs.Prelude.{◌≡◌, ◌≤◌, ◌++◌, length};
-ghost use Rattle.hart_commands.specs.IdentityBytes.{identity_of, identity_bytes};
+ghost use Rattle.hart_commands.specs.Groups.{identity_of, identity_bytes};
 
 use hart_values::Payload;
 

@@ -5,7 +5,7 @@ ghost use Rattle.hart_commands.specs.RequestData.{IsRequest, MayFollow, command_
 ghost use Rattle.hart_commands.specs.Commands.{command_name, reply_rows, request_rows, written_by};
 ghost use Rattle.hart_commands.specs.Fields.{bytes_of, field_bytes, fields_of};
 ghost use Rattle.hart_commands.specs.FieldWidths.{HasWidthOfKind};
-ghost use Rattle.hart_commands.specs.NeededData.{AreTooFew, needed_data};
+ghost use Rattle.hart_commands.specs.RequestData.{AreTooFew, needed_data};
 ghost use Rattle.hart_commands.specs.Parts.{content_bytes, content_parts, request_parts};
 ghost use Rattle.hart_commands.specs.RequestCode.{is_write};
 ghost use Rattle.hart_commands.specs.Registers.{AreValid, Contents, named_in, overwrite_of, overwritten, place_of, registers, set_by};
@@ -167,7 +167,7 @@ pub fn known_commands_have_names()
 
 /// The fields of a well-made request's data are the parts of the request: as many fields as parts, in the same order, with the same bytes.
 /// In the same way, the fields of a well-made reply's data are the parts of its content.
-#[tactic(auto, using(crate::proofs::lemmas::RequestFields::parts_of_request, crate::proofs::lemmas::Reply::parts_of_reply))]
+#[tactic(auto, using(crate::proofs::lemmas::Request::parts_of_request, crate::proofs::lemmas::Reply::parts_of_reply))]
 pub fn fields_are_the_parts()
     ensures request { (request : Request) → IsRequest request
         → field_bytes (fields_of (request_rows (command_of request)) (request_data request)) ≡ request_parts request }

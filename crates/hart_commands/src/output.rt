@@ -1,5 +1,5 @@
 ghost use Rattle.std.specs.Prelude.{◌≡◌, ◌≤◌, ◌++◌, length};
-ghost use Rattle.hart_commands.specs.OutputBytes.{output_of, output_bytes};
+ghost use Rattle.hart_commands.specs.Groups.{output_of, output_bytes};
 
 use hart_values::{Bits32, Payload};
 

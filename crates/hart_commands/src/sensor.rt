@@ -1,5 +1,5 @@
 ghost use Rattle.std.specs.Prelude.{◌≡◌, ◌≤◌, ◌++◌, length};
-ghost use Rattle.hart_commands.specs.SensorBytes.{sensor_of, sensor_bytes};
+ghost use Rattle.hart_commands.specs.Groups.{sensor_of, sensor_bytes};
 
 use hart_values::{Bits32, Payload};
 

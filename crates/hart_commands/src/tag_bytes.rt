@@ -1,5 +1,5 @@
 ghost use Rattle.std.specs.Prelude.{◌≡◌, ◌≤◌, ◌↔◌, length, IsSome, IfSome};
-ghost use Rattle.hart_commands.specs.TagBytes.{tag_in, descriptor_in, date_in};
+ghost use Rattle.hart_commands.specs.Groups.{tag_in, descriptor_in, date_in};
 
 use crate::first_bytes::first_bytes;
 

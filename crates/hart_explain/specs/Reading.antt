@@ -2,10 +2,9 @@
 use Rattle.std.specs.Prelude.{◌==◌, nat_lt, is_some, if◌then◌else◌, [], ◌∷◌, ℕ, List, Option, None, Some, Ok, Err, drop, length, take}
 use Rattle.hart_commands.specs.Commands.{command_name, reply_rows, request_rows}
 use Rattle.hart_commands.specs.Fields.{Field, Row, bytes_of, fields_of}
-use Rattle.hart_commands.specs.NeededData.{needed_data}
+use Rattle.hart_commands.specs.RequestData.{needed_data, Reading as RequestOrCode, request_data, request_reading}
 use Rattle.hart_commands.specs.Parts.{content_bytes}
 use Rattle.hart_commands.specs.ReplyData.{reply_reading}
-use Rattle.hart_commands.specs.RequestData.{Reading as RequestOrCode, request_data, request_reading}
 use Rattle.hart_commands.specs.declared.reply.Reply.{Reply}
 use Rattle.hart_explain.specs.declared.field.Field.{Field as FieldInCode}
 use Rattle.hart_explain.specs.declared.reading.Problem.{Problem}

@@ -18,8 +18,7 @@ use Rattle.hart_commands.specs.declared.request.Request.TheVariants.{SetPolling,
 use Rattle.hart_values.specs.LoopMode.{mode_byte}
 use Rattle.hart_values.specs.declared.loop_mode.LoopMode.{LoopMode}
 use Rattle.hart_commands.proofs.lemmas.Reply.{kept, parts_of_reply}
-use Rattle.hart_commands.proofs.lemmas.Request.{written_is_own}
-use Rattle.hart_commands.proofs.lemmas.RequestFields.{parts_of_request}
+use Rattle.hart_commands.proofs.lemmas.Request.{parts_of_request, written_is_own}
 pub use Rattle.hart_commands.proofs.lemmas.FieldWidths.{fields_have_the_width_of_their_kind-reply}
 pub use Rattle.hart_commands.proofs.lemmas.FieldWidths.{fields_have_the_width_of_their_kind-request}
 pub use Rattle.hart_commands.proofs.lemmas.RequestMade.{requests_have_their_command}

@@ -13,7 +13,7 @@ use Rattle.std.specs.Simd.{first_chunks}
 use Rattle.hart_commands.specs.Commands.{CommandRow, command_row, commands, known, replied, reply_rows}
 use Rattle.hart_commands.specs.Fields.{field_bytes, fields_of}
 use Rattle.hart_commands.specs.FirstBytes.{having}
-use Rattle.hart_commands.specs.IdentityBytes.{identity_of}
+use Rattle.hart_commands.specs.Groups.{identity_of}
 use Rattle.hart_commands.specs.Parts.{content_parts}
 use Rattle.hart_commands.specs.ReplyData.{IsReply, content_by, content_bytes, reply_reading, reply_payload}
 use Rattle.hart_commands.specs.ReplyReading.{identity_reading, dynamic_reading, variables_reading, more_reading}
@@ -23,7 +23,7 @@ use Rattle.hart_commands.specs.declared.content.ReplyContent.TheVariants.{Identi
 use Rattle.hart_commands.specs.declared.fields.FieldKind.TheVariants.{Bytes}
 use Rattle.hart_commands.specs.declared.reply.Reply.{Reply}
 use Rattle.hart_commands.proofs.lemmas.Parts.{spell, spelled, spelled_front, by_spelling}
-use Rattle.hart_commands.proofs.lemmas.RequestFields.{all_left}
+use Rattle.hart_commands.proofs.lemmas.Request.{all_left}
 use Rattle.hart_commands.proofs.lemmas.Rows.{by_row}
 use Rattle.hart_commands.specs.Fields as fields
 

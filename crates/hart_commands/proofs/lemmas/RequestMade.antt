@@ -12,10 +12,9 @@ use Rattle.std.specs.Option.{option_map_or}
 use Rattle.std.specs.Prelude.{is_some}
 use Rattle.hart_values.proofs.lemmas.Laws.{dates_are_decided-date}
 use Rattle.hart_commands.specs.Commands.{Always, Asked, CommandRow, asked, commands, is_known}
-use Rattle.hart_commands.specs.NeededData.{needed_data}
-use Rattle.hart_commands.specs.RequestData.{IsRequest, command_of, read_by, request_data, request_reading}
+use Rattle.hart_commands.specs.RequestData.{needed_data, IsRequest, command_of, read_by, request_data, request_reading}
 use Rattle.hart_commands.specs.RequestReading.{Reading, needing, polling_reading, codes_reading, tag_reading, reset_reading}
-use Rattle.hart_commands.specs.TagBytes.{tag_in, descriptor_in, date_in}
+use Rattle.hart_commands.specs.Groups.{tag_in, descriptor_in, date_in}
 use Rattle.hart_commands.specs.declared.request.Request.{Request}
 use Rattle.hart_commands.proofs.lemmas.Rows.{by_row}
 

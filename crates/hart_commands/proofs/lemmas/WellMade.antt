@@ -9,7 +9,7 @@ use Rattle.std.specs.List.{AllByRecursion, list_all}
 use Rattle.std.specs.Prelude.{◌&&◌, nat_le}
 use Rattle.hart_commands.specs.Commands.{Command, command_name, commands, known, reply_rows, request_rows}
 use Rattle.hart_commands.specs.Fields.{Row, spaced, text}
-use Rattle.hart_commands.specs.NeededData.{needed_data}
+use Rattle.hart_commands.specs.RequestData.{needed_data}
 use Rattle.hart_commands.specs.WellMade.{are_request_rows, are_well_made, is_command_name, is_well_made, leave_nothing}
 use Rattle.hart_commands.specs.WellMade.{suits_size}
 use Rattle.hart_commands.proofs.lemmas.Rows.{of_known}

@@ -9,7 +9,7 @@ use Rattle.std.specs.Prelude.{false, if◌then◌else◌, is_some}
 use Rattle.hex.specs.Hex.{IsBytes}
 use Rattle.hart_commands.specs.Commands.{command_name, is_known, reply_rows, request_rows}
 use Rattle.hart_commands.specs.Fields.{Row, bytes_of, fields_of}
-use Rattle.hart_commands.specs.NeededData.{needed_data}
+use Rattle.hart_commands.specs.RequestData.{needed_data}
 use Rattle.hart_commands.specs.WellMade.{are_well_made}
 use Rattle.hart_commands.proofs.lemmas.WellMade.{the_table_is_well_made-names, the_table_is_well_made-needed}
 use Rattle.hart_explain.proofs.lemmas.Rows.{rows-fit}

@@ -14,7 +14,7 @@ use Rattle.hart_commands.specs.Parts.{content_bytes}
 use Rattle.hart_commands.specs.Registers.{AreValid, Overwrite}
 use Rattle.hart_commands.specs.ReplyData.{content_reading, reply_payload, reply_reading}
 use Rattle.hart_commands.specs.ReplyReading.{dynamic_reading, saying, tag_of, variables_reading}
-use Rattle.hart_commands.specs.RequestData.{IsRequest, command_of, Reading}
+use Rattle.hart_commands.specs.RequestData.{IsRequest, command_of, Reading, needed_data}
 use Rattle.hart_commands.specs.Values.{unit_value_of, unit_value_bytes, variable_of, variable_bytes}
 use Rattle.hart_commands.specs.declared.content.ReplyContent.{ReplyContent}
 use Rattle.hart_commands.specs.declared.register.Register.{Register}
@@ -39,7 +39,6 @@ use Rattle.hart_commands.specs.Commands.{is_known}
 use Rattle.hart_commands.specs.RequestCode.{request_code}
 use Rattle.hart_commands.proofs.lemmas.Laws.{overwrites_are_valid}
 use Rattle.hart_commands.proofs.lemmas.RequestMade.{IsGiven, given}
-use Rattle.hart_commands.specs.NeededData.{needed_data}
 use Rattle.hart_device.specs.answer.Answer.{after_command, effect_of, judged_of, reading_of, reply_of, reply_with}
 use Rattle.hart_device.proofs.lemmas.answer.Effect.{writes_execute_their_overwrite-well_made}
 
