@@ -115,9 +115,9 @@ pub record DecidesNoMore (held : List ℕ) (after : After) (used : ℕ) : Type 0
   pub undecided : after ≡ More → IsUndecidedSighting (faultless (drop used held))
 
 -- Whatever was heard before, the decided sightings up to the place `used`, in held bytes and in what comes after them, were told.
-abbrev pub Explains : {T W : Type 0} → ToldBetween T W → ℕ → List ℕ → After → ℕ → Dates → (past past_after : Past)
+abbrev pub HearsDecided : {T W : Type 0} → ToldBetween T W → ℕ → List ℕ → After → ℕ → Dates → (past past_after : Past)
     → (before after : Moment T W) → Type 0
-Explains {T} {W} Told first held after used dates past past_after now now_after = (start since : Moment T W) (heard : List Heard)
+HearsDecided {T} {W} Told first held after used dates past past_after now now_after = (start since : Moment T W) (heard : List Heard)
     → Stands (Told start since now) past (λ place. date_at dates (place - first)) first (heard_with held after) 0 (is_end after) heard
     → Stands (Told start since now_after) past_after (λ place. date_at dates (place - first)) first (heard_with held after) used
     (is_end after) heard

@@ -42,7 +42,7 @@ use hart_frame::laws::{
 /// of its preamble bytes.
 ///
 /// A listener that waits for more has told the decided sightings. All calls but `hear_end` leave a listener waiting. `hear_end` leaves it
-/// with nothing held, and then it has told all sightings. Of a text, at most half as many characters are heard as it has bytes (`places`).
+/// with nothing held, and then it has told all sightings.
 pub fn listeners_tell_all_sightings()
     ensures decided { (listener : Listener) (heard : List Heard) (list : List Dated)
         → HasTold false listener heard list → IsWaiting listener
@@ -50,7 +50,12 @@ pub fn listeners_tell_all_sightings()
     ensures all { (listener : Listener) (heard : List Heard) (list : List Dated)
         → HasTold true listener heard list → listener.held ≡ []
         → (seen : List Seen) × AreSightingsOf heard seen × (list ≡ told_of heard seen) }
-    ensures places { (listener : Listener) (heard : List Heard) (list : List Dated) (text rest : List ℕ)
+{}
+
+/// Each character that a listener hears takes at least two bytes of the text in which it is heard. Bytes of the text that are left are not
+/// among them.
+pub fn characters_take_two_bytes()
+    ensures { (listener : Listener) (heard : List Heard) (list : List Dated) (text rest : List ℕ)
         → HasTold false listener heard list → ReadsHeard text heard rest
         → 2 * (listener.first + length listener.held) + length rest ≤ length text }
 {}

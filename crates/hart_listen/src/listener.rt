@@ -13,7 +13,8 @@ ghost use Rattle.hart_listen.specs.Before.{AreAlike};
 ghost use Rattle.hart_listen.specs.Dates.{date_at};
 ghost use Rattle.hart_listen.specs.Gaps.{seen_place};
 ghost use Rattle.hart_listen.specs.LastMessages.{KeepsOwn, recalled};
-ghost use Rattle.hart_listen.specs.Listener.{DecidesNoMore, Explains, HasTold, Hears, HearsText, IsNextSighting, IsWaiting, chars_after};
+ghost use Rattle.hart_listen.specs.Listener.{DecidesNoMore, HasTold, Hears, HearsDecided, HearsText, IsNextSighting, IsWaiting};
+ghost use Rattle.hart_listen.specs.Listener.{chars_after};
 ghost use Rattle.hart_listen.specs.Listener.{dated_from};
 ghost use Rattle.hart_listen.specs.Preambles.{counted, last_stop, preambles_at, preambles_dropped, stop_after};
 ghost use Rattle.hart_listen.specs.Teller.{Tells, moment};
@@ -262,7 +263,7 @@ fn tell_decided<W, T: Teller<W>>(
     requires own { KeepsOwn first past.old.last }
     requires preambles { past.old.preambles ≤ first }
     requires places { first + length held.now < 2 ^ 64 - 1 }
-    ensures explains { Explains T.told
+    ensures hears { HearsDecided T.told
         first held.now after.now result dates.now
         past.old past.new
         (moment teller.old writer.old) (moment teller.new writer.new) }

@@ -34,10 +34,10 @@ listeners_tell_all_sightings-all listener heard list told none =
     let ended = rw none at told in
     (_, stands_all _ listener.past (date_from listener) listener.first heard ended, sym ended.told)
 
-pub listeners_tell_all_sightings-places : (listener : Listener) (heard : List Heard) (list : List Dated) (text rest : List ℕ)
+pub characters_take_two_bytes : (listener : Listener) (heard : List Heard) (list : List Dated) (text rest : List ℕ)
     → HasTold false listener heard list → ReadsHeard text heard rest
     → 2 * (listener.first + length listener.held) + length rest ≤ length text
-listeners_tell_all_sightings-places listener heard list text rest told reads =
+characters_take_two_bytes listener heard list text rest told reads =
     let long : length (faultless listener.held) ≡ length listener.held = length-map listener.held _ in
     omega (arith, stands_count _ listener.past (date_from listener) listener.first _ 0 heard told, long, heard_few text heard rest reads)
 

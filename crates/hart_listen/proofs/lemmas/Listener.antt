@@ -21,7 +21,7 @@ use Rattle.hart_listen.specs.Dates.{date_at, date_from, kept_word}
 use Rattle.hart_listen.specs.LastMessages.{KeepsOwn, recalled}
 use Rattle.hart_listen.specs.Gaps.{seen_place}
 use Rattle.hart_listen.specs.Preambles.{after_preambles, counted, last_preambles, last_stop, preambles_at, preambles_dropped}
-use Rattle.hart_listen.specs.Listener.{DecidesNoMore, Explains, Hears, HearsText, IsWaiting, StandsFor, chars_after, dated_from}
+use Rattle.hart_listen.specs.Listener.{DecidesNoMore, Hears, HearsDecided, HearsText, IsWaiting, StandsFor, chars_after, dated_from}
 use Rattle.hart_listen.specs.Listener.{total}
 use Rattle.hart_listen.specs.Past.{no_past}
 use Rattle.hart_listen.specs.Sightings.{AreDecided, ComeFirst}
@@ -100,13 +100,13 @@ hears_on Told a b c xs ys w w1 w2 h k start since heard s =
     rw (← append_assoc heard xs ys) (k start since (heard ++ xs) (h start since heard s))
 
 -- nothing more is told where no sighting is decided
-pub explains_nothing : {T W : Type 0} (Told : ToldBetween T W) (first : ℕ) (held : List ℕ) (after : After) (dates : Dates)
-    (x : Past) (w : Moment T W) → Explains Told first held after 0 dates x x w w
-explains_nothing Told first held after dates x w start since heard s = s
+pub decided_none : {T W : Type 0} (Told : ToldBetween T W) (first : ℕ) (held : List ℕ) (after : After) (dates : Dates)
+    (x : Past) (w : Moment T W) → HearsDecided Told first held after 0 dates x x w w
+decided_none Told first held after dates x w start since heard s = s
 
 -- one more sighting was told
-pub explains_next : {T W : Type 0} (Told : ToldBetween T W) (first : ℕ) (held : List ℕ) (after : After) (used to : ℕ) (dates : Dates)
-    (x y z : Past) (w w1 w2 : Moment T W) (given : List Seen) → Explains Told first held after used dates x y w w1
+pub decided_next : {T W : Type 0} (Told : ToldBetween T W) (first : ℕ) (held : List ℕ) (after : After) (used to : ℕ) (dates : Dates)
+    (x y z : Past) (w w1 w2 : Moment T W) (given : List Seen) → HearsDecided Told first held after used dates x y w w1
     → SeesOn (heard_with held after) (is_end after) used given to → to ≤ length (heard_with held after)
     → All (λ s. seen_place s < length (heard_with held after)) given → All (λ s. seen_place s ≤ length held) given
     → ((earlier : List Seen) → y.stop ≡ last_stop earlier
@@ -114,8 +114,8 @@ pub explains_next : {T W : Type 0} (Told : ToldBetween T W) (first : ℕ) (held 
     (dated_from y.last (λ place. date_at dates (place - first)) first given)))
     → AreAlike (recalled z.last) (recalled y.last ++ map (moved_seen first) given)
     → ((earlier : List Seen) → y.stop ≡ last_stop earlier → z.stop ≡ last_stop (earlier ++ map (moved_seen first) given))
-    → z.preambles ≡ y.preambles → Explains Told first held after to dates x z w w2
-explains_next Told first held after used to dates x y z w w1 w2 given h sees within below few tells alike stop preambles
+    → z.preambles ≡ y.preambles → HearsDecided Told first held after to dates x z w w2
+decided_next Told first held after used to dates x y z w w1 w2 given h sees within below few tells alike stop preambles
     start since heard s =
     let date : ℕ → List ℕ = λ place. date_at dates (place - first) in
     stands_on (Told start since w1) (Told start since w2) y z date first (heard_with held after) used to (is_end after) heard given
@@ -125,27 +125,27 @@ explains_next Told first held after used to dates x y z w w1 w2 given h sees wit
     alike stop preambles
 
 -- the search went on without a sighting
-pub explains_still : {T W : Type 0} (Told : ToldBetween T W) (first : ℕ) (held : List ℕ) (after : After) (used to : ℕ) (dates : Dates)
-    (x y : Past) (w w1 : Moment T W) → Explains Told first held after used dates x y w w1
+pub decided_still : {T W : Type 0} (Told : ToldBetween T W) (first : ℕ) (held : List ℕ) (after : After) (used to : ℕ) (dates : Dates)
+    (x y : Past) (w w1 : Moment T W) → HearsDecided Told first held after used dates x y w w1
     → SeesOn (heard_with held after) (is_end after) used [] to → to ≤ length (heard_with held after)
-    → Explains Told first held after to dates x y w w1
-explains_still Told first held after used to dates x y w w1 h sees within =
-    explains_next Told first held after used to dates x y y w w1 w1 [] h sees within
+    → HearsDecided Told first held after to dates x y w w1
+decided_still Told first held after used to dates x y w w1 h sees within =
+    decided_next Told first held after used to dates x y y w w1 w1 [] h sees within
     (All-nil (λ (s : Seen). seen_place s < length (heard_with held after))) (All-nil (λ (s : Seen). seen_place s ≤ length held))
     (λ earlier is start since list so. rw append-nil so)
     (alike_same (recalled y.last) (recalled y.last ++ []) (sym (append-nil (recalled y.last)))) (λ earlier is. rw append-nil is) refl
 
 -- the decided sightings of what was held were told, and the rest is held
 pub hears_held : {T W : Type 0} (Told : ToldBetween T W) (old new : Listener) (after : After) (used : ℕ) (mid : Past) (w w1 : Moment T W)
-    → AfterIsValid after → Explains Told old.first old.held after used old.dates old.past mid w w1
+    → AfterIsValid after → HearsDecided Told old.first old.held after used old.dates old.past mid w w1
     → DecidesNoMore old.held after used → new.first ≡ old.first + used → new.held ≡ drop used old.held
     → new.past ≡ record mid { preambles = preambles_dropped mid.preambles old.held used }
     → ((place : ℕ) → date_at new.dates place ≡ date_at old.dates (used + place))
     → Hears Told old new (heard_chars (chars_after after)) (is_end after) w w1
-hears_held Told old new after used mid w w1 valid explains decided first held past dates start since heard s =
+hears_held Told old new after used mid w w1 valid hears decided first held past dates start since heard s =
     let more = stands_more (Told start since w) old.past (date_from old) old.first (faultless old.held) 0 (is_end after) heard
     (chars_after after) s in
-    let told = explains start since (heard ++ heard_chars (chars_after after)) (rw (heard_is old.held after) more) in
+    let told = hears start since (heard ++ heard_chars (chars_after after)) (rw (heard_is old.held after) more) in
     let dropped = dropped_is mid.preambles old.held after used valid decided.within
     ∙ ap (λ xs. last_preambles (after_preambles mid.preambles (take used xs))) (heard_is old.held after) in
     rw (held, past, dropped)

@@ -11,7 +11,7 @@ use Rattle.hart_text.specs.Items.{Opens, nothing}
 use Rattle.hart_text.proofs.lemmas.Heard.{chars_on, heard_laws}
 use Rattle.hart_listen.specs.Listener.{HasTold, IsWaiting}
 use Rattle.hart_listen.specs.declared.listener.Listener.{Listener}
-use Rattle.hart_listen.proofs.lemmas.Laws.{listeners_tell_all_sightings-places}
+use Rattle.hart_listen.proofs.lemmas.Laws.{characters_take_two_bytes}
 use Rattle.hart_cli.specs.declared.calls.explain.printer.Printer.{Printer}
 use Rattle.hart_cli.specs.declared.calls.explain.printer.Style.{Style}
 use Rattle.hart_cli.specs.declared.fault.CliFault.{CliFault}
@@ -179,7 +179,7 @@ input_within input (CameTo TooLong) r r2 reads = omega (arith, reads.1)
 pub places_fit : (r r1 : Stream) (style : Style) (l : Listener) (p : Printer) (end : Option InputEnd) (rest : List ℕ) (read : ℕ)
     (w w1 : Stream) → HeardUpTo r r1 end rest read style l p w w1 → 2 * (l.first + length l.held) + length rest ≤ 2 ^ 64
 places_fit r r1 style l p end rest read w w1 now =
-    let few = listeners_tell_all_sightings-places l now.heard now.prints.0 _ rest now.prints.1 now.decoded.reads in
+    let few = characters_take_two_bytes l now.heard now.prints.0 _ rest now.prints.1 now.decoded.reads in
     let within = input_within now.input (ending_of end) r r1 (read_to r r1 now.input stream_limit end now.decoded.came) in
     omega (arith, few, within)
 

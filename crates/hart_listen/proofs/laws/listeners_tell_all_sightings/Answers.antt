@@ -1,6 +1,5 @@
 use Rattle.hart_listen.proofs.lemmas.Laws.{listeners_tell_all_sightings-decided}
 use Rattle.hart_listen.proofs.lemmas.Laws.{listeners_tell_all_sightings-all}
-use Rattle.hart_listen.proofs.lemmas.Laws.{listeners_tell_all_sightings-places}
 use Rattle.hart_listen.proofs.laws.listeners_tell_all_sightings.Goals as goal
 
 pub returns-clause-decided : goal.returns-clause-decided
@@ -8,6 +7,3 @@ returns-clause-decided c = listeners_tell_all_sightings-decided
 
 pub returns-clause-all : goal.returns-clause-all
 returns-clause-all c = listeners_tell_all_sightings-all
-
-pub returns-clause-places : goal.returns-clause-places
-returns-clause-places c = listeners_tell_all_sightings-places

@@ -9,7 +9,7 @@ use Rattle.hart_listen.specs.Gaps.{seen_place}
 use Rattle.hart_listen.specs.Preambles.{stop_after}
 use Rattle.hart_listen.proofs.lemmas.Before.{own_more}
 use Rattle.hart_listen.proofs.lemmas.Held.{heard_few}
-use Rattle.hart_listen.proofs.lemmas.Listener.{explains_next, explains_nothing, explains_still}
+use Rattle.hart_listen.proofs.lemmas.Listener.{decided_next, decided_none, decided_still}
 use Rattle.hart_listen.proofs.lemmas.Preambles.{stop_pushed}
 use Rattle.hart_listen.proofs.lemmas.Stands.{plus_zero}
 use Rattle.hart_listen.proofs.listener.tell_decided.Goals as goal
@@ -39,7 +39,7 @@ in_held_all held after sighting used within ends =
 
 pub loop-sighting-init : goal.loop-sighting-init
 loop-sighting-init g c = record {
-  explains = explains_nothing g.T.Teller.told _ _ _ c.args.dates.now _ _;
+  hears = decided_none g.T.Teller.told _ _ _ c.args.dates.now _ _;
   own = rw (plus_zero c.args.first) c.requires.own;
   preambles = refl;
   within = omega arith;
@@ -48,10 +48,10 @@ loop-sighting-init g c = record {
 pub next_after-next-requires-clause-within : goal.next_after-next-requires-clause-within
 next_after-next-requires-clause-within g c = c.loop-sighting.invariant.within
 
-pub returns-in_default-clause-explains : goal.returns-in_default-clause-explains
-returns-in_default-clause-explains g c =
+pub returns-in_default-clause-hears : goal.returns-in_default-clause-hears
+returns-in_default-clause-hears g c =
     let next = c.next_after-next.ensures in
-    explains_still g.T.Teller.told _ _ _ c.loop-sighting.used _ c.args.dates.now _ _ _ _ c.loop-sighting.invariant.explains
+    decided_still g.T.Teller.told _ _ _ c.loop-sighting.used _ c.args.dates.now _ _ _ _ c.loop-sighting.invariant.hears
     (rw c.in_default.is at next.sees) next.within
 
 pub returns-in_default-clause-own : goal.returns-in_default-clause-own
@@ -83,8 +83,8 @@ loop-sighting-preserved g c =
     let loop = c.loop-sighting in
     let seen = moved_seen c.args.first (seen_of c.in-Some.sighting) in
     record {
-      explains = explains_next g.T.Teller.told _ _ _ loop.used _ c.args.dates.now _ loop.past c.tell_sighting.new.past _ _ _
-          (seen_of c.in-Some.sighting ∷ []) loop.invariant.explains (rw c.in-Some.is at next.sees) next.within
+      hears = decided_next g.T.Teller.told _ _ _ loop.used _ c.args.dates.now _ loop.past c.tell_sighting.new.past _ _ _
+          (seen_of c.in-Some.sighting ∷ []) loop.invariant.hears (rw c.in-Some.is at next.sees) next.within
           (below_all c.in-Some.sighting _ _ next.within (rw c.in-Some.is at next.places))
           (in_held_all _ _ c.in-Some.sighting _ next.within (rw c.in-Some.is at next.places))
           told.tells told.alike

@@ -5,7 +5,7 @@ pub returns-clause-hears : goal.returns-clause-hears
 returns-clause-hears g c =
     let go = c.let_go.ensures in
     hears_held g.T.Teller.told c.args.self.now c.let_go.new.self c.args.after c.tell_decided-used.result c.tell_decided-used.new.past _ _
-    c.requires.valid (rw c.as_slice-held.ensures.value at c.tell_decided-used.ensures.explains)
+    c.requires.valid (rw c.as_slice-held.ensures.value at c.tell_decided-used.ensures.hears)
     (rw c.as_slice-held.ensures.value at c.tell_decided-used.ensures.decided) go.first go.held go.past go.dates
 
 pub returns-clause-waiting : goal.returns-clause-waiting
