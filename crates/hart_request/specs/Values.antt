@@ -13,7 +13,7 @@ use Rattle.hart_commands.specs.declared.fields.FieldKind.TheVariants.{Bytes, Num
 use Rattle.hart_commands.specs.declared.fields.FieldKind.TheVariants.{Variables}
 use Rattle.hart_commands.specs.declared.fields.FieldSize.{FieldSize}
 use Rattle.hart_commands.specs.declared.fields.FieldSize.TheVariants.{Exactly, AllBut}
-use Rattle.hart_line.specs.script.Words.{data_of}
+use Rattle.hart_text.specs.Data.{data_of}
 use Rattle.hart_request.specs.declared.fault.FieldFault.{FieldFault}
 use Rattle.hart_request.specs.declared.fault.FieldFault.TheVariants.{BadCharacter, NoBytes, NoCodes, NoDate, NoNumber, TooLong}
 use Rattle.hart_explain.specs.Values.{held_value, is_printable}

@@ -11,7 +11,7 @@ ghost use Rattle.hart_request.specs.Values.{text_value, value_of};
 use crate::fault::FieldFault;
 use hart_commands::{FieldKind, FieldRow, FieldSize};
 use hart_explain::day_text;
-use hart_line::read_data;
+use hart_text::read_data;
 use hart_values::{ByteList, PackedText, Payload};
 use jiff::civil::Date;
 

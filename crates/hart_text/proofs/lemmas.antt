@@ -1,5 +1,6 @@
 -- Lemmas.
 pub mod Lines
+pub mod Data
 pub mod Item
 pub mod Reads
 pub mod Items

@@ -6,7 +6,8 @@ use Rattle.std.specs.Option.{option_or}
 use Rattle.std.specs.Result.{result_ok}
 use Rattle.std.specs.Str.{all_ascii_digits, bytes_eq}
 use Rattle.std.specs.Str.Parse.{digits_value}
-use Rattle.hex.specs.Hex.{decode_of, decode_sized}
+use Rattle.hex.specs.Hex.{decode_sized}
+pub use Rattle.hart_text.specs.Data.{Finds, HasNoValue, IsDataWord, data_of}
 use Rattle.hart_values.specs.address.AddressBytes.{broadcast}
 use Rattle.hart_values.specs.address.DeviceNumbers.{DeviceNumbers}
 use Rattle.hart_line.specs.Types.{Address, MasterId, Primary, Secondary}
@@ -58,10 +59,6 @@ address_of word =
 abbrev pub command_of : List ℕ → Option ℕ
 command_of word = decimal_of 3 255 word
 
--- Data are written in two hex digits of either case for each byte, at most 255 bytes.
-abbrev pub data_of : List ℕ → Option (List ℕ)
-data_of word = result_ok (decode_of word) >>= (λ bytes. if nat_le (length bytes) 255 then Some bytes else None)
-
 -- A word stands for this master.
 abbrev pub IsWho : List ℕ → MasterId → Type 0
 IsWho word master = who_of word ≡ Some master
@@ -73,16 +70,3 @@ IsAddressWord word address = address_of word ≡ Some address
 -- A word stands for this command.
 abbrev pub IsCommandWord : List ℕ → ℕ → Type 0
 IsCommandWord word command = command_of word ≡ Some command
-
--- A word stands for these data.
-abbrev pub IsDataWord : List ℕ → List ℕ → Type 0
-IsDataWord word bytes = data_of word ≡ Some bytes
-
--- No value makes `IsValue` true.
-abbrev pub HasNoValue : {T : Type 0} → (T → Type 0) → Type 0
-HasNoValue {T} IsValue = (value : T) → IsValue value → ⊥
-
--- If a value is found, `IsValue` is true of it. If nothing is found, no value makes `IsValue` true.
-abbrev pub Finds : {T : Type 0} → (T → Type 0) → Option T → Type 0
-Finds {T} IsValue None = HasNoValue IsValue
-Finds {T} IsValue (Some value) = IsValue value

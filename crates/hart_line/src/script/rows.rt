@@ -7,12 +7,10 @@ ghost use Rattle.hart_line.specs.script.Rows.{request_of};
 ghost use Rattle.hart_line.specs.script.Words.{Finds, data_of};
 
 use crate::script::items::read_items;
-use crate::script::words::{
-    LONGEST_DATA_LEN, decode_data, decode_data_by, read_address_by, read_command, read_who,
-};
+use crate::script::words::{decode_data_by, read_address_by, read_command, read_who};
 use crate::{Filling, Heard, LineEvent, LineFault, NoRoom};
 use hart_commands::Request;
-use hart_text::{Digits, Words};
+use hart_text::{Digits, LONGEST_DATA_LEN, Words, decode_data};
 use std::alloc::Global;
 
 /// The greatest number of data bytes that are read with a short buffer. No request uses more data bytes, so longer data only have ignored

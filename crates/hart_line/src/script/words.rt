@@ -5,13 +5,9 @@ ghost use Rattle.hex.specs.Hex.{decode_of};
 ghost use Rattle.hart_line.specs.script.Words.{decimal_of, device_of, numbers_of, polling_of, Finds, HasNoValue};
 ghost use Rattle.hart_line.specs.script.Words.{IsAddressWord, IsCommandWord, IsDataWord, IsWho};
 
-use hart_frame::Payload;
-use hart_text::Digits;
+use hart_text::{Digits, decode_data};
 use hart_values::{Address, MasterId, PollingAddress, UniqueAddress};
 use hex::FromHex;
-
-/// The greatest number of data bytes.
-pub const LONGEST_DATA_LEN: usize = 255;
 
 /// Reads WHO: `P` for the primary master, or `S` for the secondary. Returns `None` for anything else.
 pub fn read_who(word: &[u8]) -> Option<MasterId>
@@ -119,31 +115,6 @@ fn number_of(hundreds: u8, tens: u8, ones: u8) -> Option<u8>
     }
     let above_ten = 10 * u16::from(hundreds - b'0') + u16::from(tens - b'0');
     u8::try_from(10 * above_ten + u16::from(ones - b'0')).ok()
-}
-
-/// Reads DATA: at most 255 bytes in plain hex. Returns `None` for anything else.
-pub fn read_data(word: &[u8]) -> Option<Payload>
-    ensures { Finds (IsDataWord word.now) result }
-{
-    let mut room = [0; LONGEST_DATA_LEN];
-    Payload::from_slice(decode_data(word, &mut room)?)
-}
-
-/// Reads DATA as [`read_data`] does, but writes the bytes into `room` and returns them from there. `room` must be long enough for the word,
-/// or for the longest data.
-#[tactic(auto, using(crate::proofs::lemmas::script::Digits::data_read))]
-#[inline(always)]
-pub fn decode_data<'a>(word: &[u8], room: &'a mut [u8]) -> Option<&'a [u8]>
-    requires room { length room.old ≤ 255 }
-    requires enough { length room.old < 255 → length word.now ≤ 2 * length room.old }
-    ensures { MatchOption result (HasNoValue (IsDataWord word.now)) (λ bytes. IsDataWord word.now bytes.now) }
-{
-    if word.len() > 2 * room.len() {
-        return None;
-    }
-    let bytes = &mut room[..word.len() / 2];
-    hex::decode_to_slice(word, bytes).ok()?;
-    Some(bytes)
 }
 
 /// Reads DATA as [`decode_data`] does. Looks up the digits in the table `digits`, which takes fewer instructions. `room` must be long

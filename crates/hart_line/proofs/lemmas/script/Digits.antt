@@ -2,7 +2,6 @@
 use Rattle.hart_line.proofs.Common.{◌≡◌, ℕ, ◌+◌, ◌*◌, ◌<◌, List, [], ◌∷◌, Option, Some, None, Result, Ok, IsTrue, is_some, unwrap_or, arith}
 use Rattle.hart_line.proofs.Common.{cases_eq, common_steps, get_or, get_or-set_at, get_or-set_other, inl, inr, length, mul_comm, slice_set}
 use Rattle.hart_line.proofs.Common.{nat_tests}
-use Rattle.hex.proofs.HexLemmas.{decode_of-ok}
 use Rattle.hex.specs.declared.error.FromHexError.{FromHexError}
 use Rattle.hex.specs.Hex.{decode_pairs, digit_or_error, hex_digit_value, ◌>>=◌}
 use Rattle.hart_text.specs.Digits.{AreDigitsOf}
@@ -58,6 +57,3 @@ one_more_written values word place byte k within before digits below =
       | inl same ↦ rw (get_or-set_at values place k byte 0 same within, same) digits
       | inr other ↦ rw (get_or-set_other values place k byte 0 other) (before (grind arith))
     ]
-
--- the rules for data that `hex` reads
-pub ruleset data_read = (common_steps, nat_tests, decode_of-ok)
