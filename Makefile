@@ -4,7 +4,7 @@
 #   make quick                builds ./hart-unproved within two minutes, with nothing proved
 #   make check                runs every proof and test, and tries the wrong bodies of which mistakes.lock does not tell, and some others;
 #                             its last line counts what passed and failed
-#   make check-all            tries every wrong body and every wrong definition, and then runs make check
+#   make check-all            tries every wrong body and every wrong definition, and then runs make check with `rt ci` as the judge
 #   make test                 proves every crate and runs every test and script, without the wrong bodies
 #   make mistakes             tries the wrong bodies on which a change may bear, and writes mistakes.lock
 #   make definitions          does the same with the wrong definitions; not part of make check
@@ -37,9 +37,7 @@ N ?= 10000
 VERSION := $(shell sh tools/version.sh)
 ARM = $(shell command -v aarch64-linux-gnu-gcc)
 BUILT := build$(if $(TARGET),/$(TARGET))
-PROGRAM := crates/hart
 TESTS := crates/hart_tests_cli/out/hart_tests_cli_tests
-LOGS := $(CURDIR)/build/logs
 GUIDE := docs/GUIDE.md docs/COMMANDS.md docs/WIRE.md docs/FORMATS.md docs/explained.txt docs/worked.txt docs/report.png \
 	docs/GLOSSARY.md docs/explain.schema.json
 SOURCES := crates.txt $(shell find crates -name out -prune -o \( -name '*.rt' -o -name '*.antt' \) -print)
@@ -48,15 +46,12 @@ SOURCES := crates.txt $(shell find crates -name out -prune -o \( -name '*.rt' -o
 
 all: hart
 
-# The libraries are proved side by side. Then the program is built over them.
 hart: $(SOURCES)
 	python3 tools/build.py
-	cd $(PROGRAM) && { rt run -- answer < stdin > out.tmp 2>$(LOGS)/hart.log || { tail -n 20 $(LOGS)/hart.log >&2; exit 1; }; }
-	cd $(PROGRAM) && cmp out.tmp stdout && rm out.tmp
-	cp $(PROGRAM)/out/hart $@
+	cp crates/hart/out/hart $@
 
 $(TESTS): $(SOURCES)
-	cd crates/hart_tests_cli && rt test
+	python3 tools/build.py hart_tests_cli
 
 quick:
 	sh tools/quick.sh
@@ -68,10 +63,10 @@ check-all:
 	python3 tools/mistakes.py --all
 	python3 tools/mistakes.py --definitions --all
 	python3 tools/mistakes.py --against-rattle
-	bash tools/check.sh
+	bash tools/check.sh --judge
 
 test: hart
-	rt all test
+	python3 tools/build.py --whole
 	sh tools/runs.sh
 	sh tools/refused-growths.sh
 	sh tools/streams.sh
@@ -184,4 +179,4 @@ deb dist: hart library
 	sh tools/$@.sh build/packages hart build $(if $(ARM),build/aarch64-linux-gnu)
 
 clean:
-	rm -rf build hart hart-unproved $(PROGRAM)/out.tmp crates/*/out
+	rm -rf build hart hart-unproved crates/*/out

@@ -1,11 +1,15 @@
 #!/usr/bin/env python3
-"""Proves and builds the libraries below a crate side by side, each as soon as those below it are done.
+"""Proves and builds crates side by side, each as soon as those below it are done.
 
-Usage: tools/build.py [--jobs N] [CRATE ..]
+Usage: tools/build.py [--jobs N] [--whole | CRATE ..]
 
-The crate is the program, hart, if none is named. `--jobs` is the number of processors to use. A library that has not changed since it
-was built here is left as it is. Two runs of `rt` in one tree wait for each other, so each library is built in a copy of the tree, and what
-`rt` keeps of it in `out` then moves to the tree. What `rt` prints goes to build/logs/CRATE.log.
+Proves the named crates, or the program hart, and all below them. `--whole` proves every crate with its tests, holds files to the layout of
+`rt fmt` and what the prover says to the words of a verdict, and counts what passed and failed in its last line. `--jobs` is the number of
+processors to use.
+
+Runs and compares with its file `stdout` what a program writes; with `--whole`, as each of two compilers builds it. A crate that has not
+changed since it was built here is left as it is. Two runs of `rt` in one tree wait for each other, so each crate is built in a copy of the
+tree, and what `rt` keeps of it in `out` then moves to the tree. What `rt` prints goes to build/logs/CRATE.log.
 """
 
 import argparse
@@ -30,6 +34,9 @@ SOURCES = ("src", "specs", "proofs")
 MEMORY = 4_000_000
 # Each further job of a check costs about a fifth more processor time, and saves less time than the one before.
 MOST_JOBS = 3
+# Words on the prover's last line of which `rt help` says that a verdict fails by them: contracts that may say nothing, calls that may not
+# return, code that nothing proves. `main` names handles.
+NO_VERDICT = re.compile(r"^logic=.*? ((?:hides|bugs|foreign|main|may-\w+)=\S*)", re.M)
 
 
 def processors():
@@ -44,8 +51,9 @@ def folder_of(name):
 
 
 def files_of(name):
-    """The source files of a crate, in order."""
-    return sorted(f"{at}/{file}" for part in SOURCES for at, _, files in os.walk(f"{folder_of(name)}/{part}") for file in files)
+    """The source files of a crate, and those that say on what a program runs and what it writes, in order."""
+    inside = [f"{at}/{file}" for part in SOURCES for at, _, files in os.walk(f"{folder_of(name)}/{part}") for file in files]
+    return sorted([*inside, *(it.path for it in os.scandir(folder_of(name)) if it.is_file())])
 
 
 def sums_of(every):
@@ -62,54 +70,100 @@ def sums_of(every):
     return found
 
 
-def is_built(name, sums):
-    """Whether this library was built here of these sources."""
-    with contextlib.suppress(OSError), open(f"{SUMS}/{name}", encoding="utf-8") as it:
-        return it.read() == sums[name] and os.path.isdir(f"{folder_of(name)}/out")
+def is_built(name, sums, is_whole):
+    """Whether this crate was built here of these sources, and with `is_whole` also held to all that `--whole` asks."""
+    with contextlib.suppress(OSError):
+        digest, *how = text_of(f"{SUMS}/{name}").split()
+        return digest == sums[name] and (not is_whole or how == ["whole"]) and os.path.isdir(f"{folder_of(name)}/out")
     return False
 
 
-def note_built(name, sums):
+def note_built(name, sums, is_whole):
     with open(f"{SUMS}/{name}", "w", encoding="utf-8") as it:
-        it.write(sums[name])
+        it.write(f"{sums[name]}{' whole' * is_whole}")
 
 
-def build(name, jobs):
-    """Builds one library, and returns whether it is proved."""
+def has_tests(name):
+    return any("#[test]" in text_of(it) for it in files_of(name) if it.endswith(".rt"))
+
+
+def calls_of(name, jobs, is_whole):
+    """The calls of `rt` that prove and build a crate. The last one builds what stays."""
+    if os.path.isfile(f"{folder_of(name)}/src/main.rt"):
+        words = text_of(f"{folder_of(name)}/args").split()
+        backends = ["rattle", "llvm"] if is_whole else ["llvm"]
+        return [["rt", "run", "--jobs", str(jobs), "--backend", it, "--", *words] for it in backends]
+    return [["rt", "test" if has_tests(name) else "lib", "--jobs", str(jobs)]]
+
+
+def call(words, made, log):
+    """Runs a call of `rt` in a crate, and returns whether it ended well, and a program wrote what its file `stdout` has."""
+    how = {"cwd": made, "stderr": log, "check": False}
+    if words[1] != "run":
+        return subprocess.run(words, stdin=subprocess.DEVNULL, stdout=log, **how).returncode == 0
+    with open(f"{made}/stdin", "rb") as given, open(f"{made}/stdout", "rb") as wanted:
+        ran = subprocess.run(words, stdin=given, stdout=subprocess.PIPE, **how)
+        if ran.returncode == 0 and ran.stdout == wanted.read():
+            return True
+    log.write(b"error: the program ended with status %d, and wrote\n%s" % (ran.returncode, ran.stdout))
+    return False
+
+
+def is_laid_out(name, made, log):
+    """Whether `rt fmt` would change no file of a crate, which it may change here."""
+    subprocess.run(["rt", "fmt"], cwd=made, stdin=subprocess.DEVNULL, stdout=log, stderr=log, check=True)
+    files = [os.path.relpath(it, folder_of(name)) for it in files_of(name) if it.endswith((".rt", ".antt"))]
+    changed = [it for it in files if text_of(f"{made}/{it}") != text_of(f"{folder_of(name)}/{it}")]
+    log.write("".join(f"error: {it} is not in the layout: run rt fmt\n" for it in changed).encode())
+    return not changed
+
+
+def is_verdict(name):
+    """Whether the prover's last line on a crate has only words of a verdict. Tests may end the process."""
+    found = [] if has_tests(name) else NO_VERDICT.findall(text_of(f"{LOGS}/{name}.log"))
+    with open(f"{LOGS}/{name}.log", "a", encoding="utf-8") as log:
+        log.writelines(f"error: no verdict, since its last line has {it}\n" for it in found)
+    return not found
+
+
+def build(name, jobs, is_whole):
+    """Builds one crate, and returns whether it is proved, and all that was asked holds."""
     to = f"{folder_of(name)}/out"
-    with tempfile.TemporaryDirectory(prefix="room-", dir=BUILD) as room, open(f"{LOGS}/{name}.log", "wb") as log:
+    with tempfile.TemporaryDirectory(prefix="room-", dir=BUILD) as room, open(f"{LOGS}/{name}.log", "wb", buffering=0) as log:
         copy_crates([name], ROOT, room)
         made = f"{room}/crates/{name}"
-        how = {"cwd": made, "stdin": subprocess.DEVNULL, "stdout": log, "stderr": subprocess.STDOUT, "check": False}
-        ran = subprocess.run(["rt", "lib", "--jobs", str(jobs)], **how)
+        is_well = not is_whole or is_laid_out(name, made, log)
+        is_well = is_well and all(call(it, made, log) for it in calls_of(name, jobs, is_whole))
         if os.path.isdir(f"{made}/out"):
             shutil.rmtree(to, ignore_errors=True)
             os.rename(f"{made}/out", to)
-    return ran.returncode == 0
+    return is_well and (not is_whole or is_verdict(name))
 
 
 def refused(name):
     """The lines that say what was not proved, or the last ones."""
     with open(f"{LOGS}/{name}.log", encoding="utf-8", errors="replace") as it:
         lines = it.read().splitlines()
-    return [it for it in lines if re.search(r"\berror\b|not proved", it)][:20] or lines[-5:]
+    return [it for it in lines if re.search(r"\berror\b|not proved|FAILED", it)][:20] or lines[-5:]
 
 
 class Progress:
-    """Tells how far a run is, a line for each library."""
+    """Tells how far a run is, a line for each crate."""
 
     def __init__(self, count):
         self.count, self.done, self.start = count, 0, time.monotonic()
 
-    def tell(self, name, seconds, jobs, is_proved):
+    def tell(self, name, seconds, jobs, is_well):
         self.done += 1
-        said = "proved and built" if is_proved else "NOT PROVED"
+        said = "NOT PROVED" if not is_well else "proved, and its tests passed" if has_tests(name) else "proved and built"
         took = f"{seconds:.0f} s, {jobs} job{'s' * (jobs > 1)}; {time.monotonic() - self.start:.0f} s in all"
         print(f"[{self.done}/{self.count}] {name}: {said} in {took}", flush=True)
+        if not is_well:
+            print(*refused(name), f"build: {name} failed; see {os.path.relpath(LOGS)}/{name}.log", sep="\n", flush=True)
 
 
 def next_tasks(every, left, running, done, lanes):
-    """Returns the libraries that can begin now, each with its number of jobs. The idle processors are shared out evenly, at most MOST_JOBS
+    """Returns the crates that can begin now, each with its number of jobs. The idle processors are shared out evenly, at most MOST_JOBS
     to each. The remainder goes to the first ones, since most other crates wait for them."""
     ready = [it for it in left if set(every[it].below) <= done]
     # Those below the most other crates come first.
@@ -123,27 +177,26 @@ def next_tasks(every, left, running, done, lanes):
     return found
 
 
-def build_all(every, names, sums, done, lanes):
-    """Builds these libraries side by side, over those in `done`. Stops at the first one that is not proved, and returns its name."""
-    left, running, progress = list(names), {}, Progress(len(names))
+def build_all(every, names, sums, done, words):
+    """Builds these crates side by side, over those in `done`, which grows by them. What stands above one that fails is not tried."""
+    left, running, progress, lanes = list(names), {}, Progress(len(names)), words.jobs or processors()
     with ThreadPoolExecutor(lanes) as pool:
-        while left or running:
+        while running or any(set(every[it].below) <= done for it in left):
             for name, jobs in next_tasks(every, left, running, done, lanes):
                 left.remove(name)
-                running[pool.submit(build, name, jobs)] = (name, time.monotonic(), jobs)
+                running[pool.submit(build, name, jobs, words.whole)] = (name, time.monotonic(), jobs)
             for it in wait(running, return_when=FIRST_COMPLETED).done:
                 name, start, jobs = running.pop(it)
                 progress.tell(name, time.monotonic() - start, jobs, it.result())
-                if not it.result():
-                    return name
-                note_built(name, sums)
-                done.add(name)
-    return None
+                if it.result():
+                    note_built(name, sums, words.whole)
+                    done.add(name)
 
 
 def main():
-    parser = argparse.ArgumentParser(description="Proves and builds the libraries below a crate side by side.")
+    parser = argparse.ArgumentParser(description="Proves and builds crates side by side.")
     parser.add_argument("--jobs", type=int, metavar="N", help="how many processors to use")
+    parser.add_argument("--whole", action="store_true", help="prove every crate with its tests")
     parser.add_argument("names", nargs="*", default=["hart"], metavar="CRATE")
     words = parser.parse_args()
     every = crates_in(text_of(f"{ROOT}/crates.txt"))
@@ -153,15 +206,15 @@ def main():
     for folder in (LOGS, SUMS):
         os.makedirs(folder, exist_ok=True)
     sums = sums_of(every)
-    needed = {lower for name in words.names for lower in every[name].below}
-    built = {it for it in needed if is_built(it, sums)}
-    names = [it for it in every if it in needed - built]
+    needed = {it for name in (every if words.whole else words.names) for it in (*every[name].below, name)}
+    done = {it for it in needed if is_built(it, sums, words.whole)}
+    names = [it for it in every if it in needed - done]
     if names:
-        print(f"Proving {len(names)} libraries; what the prover says goes to {os.path.relpath(LOGS)}/", flush=True)
-    failed = build_all(every, names, sums, built, words.jobs or processors())
-    if failed:
-        print(*refused(failed), sep="\n", file=sys.stderr)
-        sys.exit(f"build: {failed} is not proved; see {os.path.relpath(LOGS)}/{failed}.log")
+        print(f"Proving {len(names)} crates; what the prover says goes to {os.path.relpath(LOGS)}/", flush=True)
+    build_all(every, names, sums, done, words)
+    if words.whole:
+        print(f"{len(done)} passed, {len(every) - len(done)} failed")
+    sys.exit(done != needed)
 
 
 if __name__ == "__main__":

@@ -2,16 +2,22 @@
 # Runs the gate. It ends with status 0 if everything passed:
 #
 #   - Scripts that need neither the program nor the library come first.
-#   - `rt ci` proves every crate from scratch, with its tests, and runs the program and the tests. It works on a copy of the crates
-#     without their wrong bodies, since it would prove a crate once more for its first wrong body.
-#   - Beside it, at a lower priority, the library for C is built in the tree. Then tools/mistakes.py tries the wrong bodies whose refusal
+#   - tools/build.py proves every crate from nothing, with its tests, and runs the program and the tests. It works on a copy of the
+#     tree, without what earlier checks left.
+#   - Beside it, at a lower priority, the library for C is built in that copy. Then tools/mistakes.py tries the wrong bodies whose refusal
 #     may have changed, and a sample of the others. Scripts that need no program run beside that, and scripts on the library follow.
-#   - As soon as `rt ci` has built the program, scripts run on it side by side, beside the proofs of the tests. Scripts that need these
-#     tests or measure times come at the end.
+#   - As soon as the program is built, scripts run on it side by side, beside the proofs of the tests. Scripts that need these tests or
+#     measure times come at the end.
+#
+# With --judge, `rt ci` proves every crate in place of tools/build.py, and refuses more, for example contracts that no call can meet. It
+# leaves nothing that `rt lib` can use, so the crates below the library for C are proved a second time, in the tree. `rt ci` works on a
+# copy of the crates without their wrong bodies, since it would prove a crate once more for its first wrong body.
 #
 # The output of each script is printed in one piece. At the end the gate says what all of it cost, and which scripts failed. The last line
-# counts what passed and failed: crates, programs and tests of `rt ci`, wrong bodies, scripts. The output of `rt ci` is in
-# build/logs/ci.log.
+# counts what passed and failed: crates, programs and tests, wrong bodies, scripts. The output of `rt ci` is in build/logs/ci.log, what the
+# prover says to tools/build.py in build/logs/CRATE.log.
+#
+# Usage: tools/check.sh [--judge]
 set -u
 cd "$(dirname "$0")/.." || exit 1
 work=$(mktemp -d)
@@ -20,7 +26,11 @@ trap 'rm -rf "$work"' EXIT
 chmod a+rx "$work"
 mkdir -p build/logs "$work/tree/crates" "$work/said"
 touch "$work/passed" "$work/failed"
+judge=${1:-}
 log=build/logs/ci.log
+# The tree in which `rt lib` finds the crates proved that stand below the library for C.
+proved=$work/tree
+[ -z "$judge" ] || proved=.
 program=$work/tree/crates/hart/out/hart
 tests=$work/tree/crates/hart_tests_cli/out/hart_tests_cli_tests
 library=$work/library
@@ -28,7 +38,7 @@ arm=aarch64-linux-gnu
 passed=0
 failed=0
 
-# How many scripts run side by side: one for each processor, of which half are left to `rt ci` while it runs.
+# How many scripts run side by side: one for each processor, of which half are left to the proofs while they run.
 lanes() {
     local all=${RT_JOBS:-$(nproc)}
     if [ -e "$work/proving" ]; then
@@ -67,29 +77,44 @@ run_all() {
     wait
 }
 
-# Waits until `rt ci` has proved and built the program, or has ended.
-until_built() {
-    until { grep -q "^rt: hart proved" "$log" && [ -x "$program" ]; } || [ ! -e "$work/proving" ]; do
+# Waits until a line of the proofs says that a crate is proved, or all of them have ended.
+until_proved() {
+    until grep -qE "(^rt: |\] )$1:? proved" "$log" || [ ! -e "$work/proving" ]; do
         sleep 1
     done
 }
 
-# Builds the library for C, tries the wrong bodies on what its proof has left in the tree, and runs the scripts that use either.
+# Proves the library for C, if `rt ci` leaves nothing of it, or else waits until it is proved.
+prove_library() {
+    if [ -n "$judge" ]; then
+        python3 tools/build.py --jobs "$(lanes)" hart_c
+    else
+        until_proved hart_c
+    fi
+}
+
+# Tries wrong bodies where the crates below them are proved. Those that it tries are chosen by this commit.
+try_mistakes() {
+    [ -n "$judge" ] || until_proved hart_cli
+    GIT_DIR=$(git rev-parse --absolute-git-dir) RT_JOBS=2 python3 "$proved/tools/mistakes.py" --gate
+}
+
+# Builds the library for C, tries the wrong bodies, and runs the scripts that use either.
 beside() {
     renice -n 10 "$BASHPID" >/dev/null
-    python3 tools/build.py --jobs "$(lanes)" hart_c && (cd crates/hart_c && rt lib --jobs "$(lanes)") >build/logs/hart_c.log 2>&1
+    prove_library
     # These run one after the other, since a crate is built for one target at a time, and the scripts after them copy what they change.
     mkdir "$library"
     if command -v "$arm-gcc" >/dev/null; then
         mkdir "$library/$arm"
-        run "sh tools/library.sh --target $arm $library/$arm"
+        run "sh $proved/tools/library.sh --target $arm $library/$arm"
     fi
-    run "sh examples/cortex-m/run.sh"
-    run "sh tools/library.sh $library"
-    RT_JOBS=2 python3 tools/mistakes.py --gate >"$work/gate" 2>&1 &
-    run_all "python3 tools/mistakes.py --can-fail" "sh tools/held-view.sh" "python3 tools/vector_bugs.py"
+    run "sh $proved/examples/cortex-m/run.sh"
+    run "sh $proved/tools/library.sh $library"
+    try_mistakes >"$work/gate" 2>&1 &
+    run_all "python3 $proved/tools/mistakes.py --can-fail" "sh tools/held-view.sh" "python3 tools/vector_bugs.py"
     cat "$work/gate"
-    until_built
+    until_proved hart
     run_on_program "sh tools/library-examples.sh $program $library" \
         "sh tools/library-examples.sh --target $arm $program $library/$arm" "sh tools/packages.sh $program $library \$(find $library -name $arm)"
 }
@@ -115,14 +140,21 @@ scripts=(
     "sh tools/manual.sh $program"
     "python3 tools/schema.py $program"
 )
-tar -cf - --exclude=out --exclude=must-fail --exclude=mistakes crates crates.txt HANDLES | tar -xf - -C "$work/tree"
+if [ -n "$judge" ]; then
+    tar -cf - --exclude=out --exclude=must-fail --exclude=mistakes crates crates.txt HANDLES | tar -xf - -C "$work/tree"
+    prove() { (cd "$work/tree" && rt ci); }
+else
+    tar -cf - --exclude=out --exclude=./build --exclude=./.git . | tar -xf - -C "$work/tree"
+    prove() { (cd "$work/tree" && python3 tools/build.py --whole); }
+fi
 : >"$log"
 touch "$work/proving"
 beside >"$work/beside" 2>&1 </dev/null &
-(renice -n 10 "$BASHPID" >/dev/null && until_built && run_on_program "${scripts[@]}") >"$work/on_program" 2>&1 </dev/null &
-(cd "$work/tree" && rt ci) 2>&1 | tee "$log" | grep --line-buffered -E '^rt: |NOT PROVED|passed, .* failed|\berror\b'
-[ "${PIPESTATUS[0]}" -eq 0 ] || echo "rt ci: FAILED; what was not proved stands in $log" >>"$work/failed"
+(renice -n 10 "$BASHPID" >/dev/null && until_proved hart && run_on_program "${scripts[@]}") >"$work/on_program" 2>&1 </dev/null &
+prove 2>&1 | tee "$log" | grep --line-buffered -E '^rt: |^\[|NOT PROVED|passed, .* failed|\berror\b'
+[ "${PIPESTATUS[0]}" -eq 0 ] || echo "the proofs: FAILED; what was not proved stands in build/logs" >>"$work/failed"
 rm "$work/proving"
+cp "$work"/tree/build/logs/*.log build/logs 2>/dev/null
 read -r ok _ < <(sed -nE 's/^([0-9]+) passed, ([0-9]+) failed.*/\1 \2/p' "$log" | tail -n 1)
 passed=$((passed + ${ok:-0}))
 
