@@ -28,8 +28,8 @@
 #   make packages             makes both in an empty folder, and tries them
 #   make bench                measures dump, answer, explain and sim; it asserts no time
 #
-# With RT_JOBS=N in the environment N wrong bodies or scripts are tried side by side, and not one for each processor, and `rt lib` of
-# make library gets N jobs. How many crates `rt ci` proves side by side it decides itself, by processors and memory.
+# With RT_JOBS=N in the environment the gate uses N processors, and N wrong bodies are tried side by side. Without it, all processors are
+# used, as far as there is memory for so many proofs.
 
 PREFIX ?= /usr/local
 LIBDIR ?= lib

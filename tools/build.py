@@ -3,17 +3,17 @@
 
 Usage: tools/build.py [--jobs N] [--whole | CRATE ..]
 
-Proves the named crates, or the program hart, and all below them. `--whole` proves every crate with its tests, holds files to the layout of
-`rt fmt` and what the prover says to the words of a verdict, and counts what passed and failed in its last line. `--jobs` is the number of
-processors to use.
+Proves the named crates, or the program hart, and all below them. `--whole` proves every crate with its tests, checks the layout of
+`rt fmt`, and counts what passed and failed in its last line. `--jobs` is the number of processors to use.
 
-Runs and compares with its file `stdout` what a program writes; with `--whole`, as each of two compilers builds it. A crate that has not
+Runs each program, and compares what it writes with its file `stdout`; `--whole` does so for each of two compilers. A crate that has not
 changed since it was built here is left as it is. Two runs of `rt` in one tree wait for each other, so each crate is built in a copy of the
 tree, and what `rt` keeps of it in `out` then moves to the tree. What `rt` prints goes to build/logs/CRATE.log.
 """
 
 import argparse
 import contextlib
+import filecmp
 import hashlib
 import math
 import os
@@ -23,6 +23,7 @@ import subprocess
 import sys
 import tempfile
 import time
+from collections import Counter
 from concurrent.futures import FIRST_COMPLETED, ThreadPoolExecutor, wait
 
 from kit import ROOT, copy_crates, crates_in, text_of, version
@@ -34,9 +35,12 @@ SOURCES = ("src", "specs", "proofs")
 MEMORY = 4_000_000
 # Each further job of a check costs about a fifth more processor time, and saves less time than the one before.
 MOST_JOBS = 3
-# Words on the prover's last line of which `rt help` says that a verdict fails by them: contracts that may say nothing, calls that may not
-# return, code that nothing proves. `main` names handles.
+# Words of the prover's last line by which a verdict fails, as `rt help` says: contracts that may say nothing, calls that may not return,
+# code that nothing proves. `main` names handles. Tests may end the process, and then have other words.
 NO_VERDICT = re.compile(r"^logic=.*? ((?:hides|bugs|foreign|main|may-\w+)=\S*)", re.M)
+NO_TESTS = re.compile(r"^(tests=0)$|^logic=.*? ((?:bugs|foreign|may-wait|may-serve)=\S*)", re.M)
+# How many seconds a program may run, with the check of its proof.
+LIMIT = 3600
 
 
 def processors():
@@ -73,8 +77,8 @@ def sums_of(every):
 def is_built(name, sums, is_whole):
     """Whether this crate was built here of these sources, and with `is_whole` also held to all that `--whole` asks."""
     with contextlib.suppress(OSError):
-        digest, *how = text_of(f"{SUMS}/{name}").split()
-        return digest == sums[name] and (not is_whole or how == ["whole"]) and os.path.isdir(f"{folder_of(name)}/out")
+        said = text_of(f"{SUMS}/{name}").split()
+        return said[:1] == [sums[name]] and (not is_whole or said[1:] == ["whole"]) and os.path.isdir(f"{folder_of(name)}/out")
     return False
 
 
@@ -90,7 +94,7 @@ def has_tests(name):
 def calls_of(name, jobs, is_whole):
     """The calls of `rt` that prove and build a crate. The last one builds what stays."""
     if os.path.isfile(f"{folder_of(name)}/src/main.rt"):
-        words = text_of(f"{folder_of(name)}/args").split()
+        words = text_of(f"{folder_of(name)}/args").splitlines()
         backends = ["rattle", "llvm"] if is_whole else ["llvm"]
         return [["rt", "run", "--jobs", str(jobs), "--backend", it, "--", *words] for it in backends]
     return [["rt", "test" if has_tests(name) else "lib", "--jobs", str(jobs)]]
@@ -102,7 +106,7 @@ def call(words, made, log):
     if words[1] != "run":
         return subprocess.run(words, stdin=subprocess.DEVNULL, stdout=log, **how).returncode == 0
     with open(f"{made}/stdin", "rb") as given, open(f"{made}/stdout", "rb") as wanted:
-        ran = subprocess.run(words, stdin=given, stdout=subprocess.PIPE, **how)
+        ran = subprocess.run(["timeout", str(LIMIT), *words], stdin=given, stdout=subprocess.PIPE, **how)
         if ran.returncode == 0 and ran.stdout == wanted.read():
             return True
     log.write(b"error: the program ended with status %d, and wrote\n%s" % (ran.returncode, ran.stdout))
@@ -110,25 +114,27 @@ def call(words, made, log):
 
 
 def is_laid_out(name, made, log):
-    """Whether `rt fmt` would change no file of a crate, which it may change here."""
-    subprocess.run(["rt", "fmt"], cwd=made, stdin=subprocess.DEVNULL, stdout=log, stderr=log, check=True)
+    """Runs `rt fmt` in the copy of a crate, and returns whether it changed nothing."""
+    ran = subprocess.run(["rt", "fmt"], cwd=made, stdin=subprocess.DEVNULL, stdout=log, stderr=log, check=False)
     files = [os.path.relpath(it, folder_of(name)) for it in files_of(name) if it.endswith((".rt", ".antt"))]
-    changed = [it for it in files if text_of(f"{made}/{it}") != text_of(f"{folder_of(name)}/{it}")]
+    changed = [it for it in files if not filecmp.cmp(f"{made}/{it}", f"{folder_of(name)}/{it}", shallow=False)]
     log.write("".join(f"error: {it} is not in the layout: run rt fmt\n" for it in changed).encode())
-    return not changed
+    return ran.returncode == 0 and not changed
 
 
 def is_verdict(name):
-    """Whether the prover's last line on a crate has only words of a verdict. Tests may end the process."""
-    found = [] if has_tests(name) else NO_VERDICT.findall(text_of(f"{LOGS}/{name}.log"))
+    """Whether what the prover says of a crate has no word by which a verdict fails."""
+    found = (NO_TESTS if has_tests(name) else NO_VERDICT).findall(text_of(f"{LOGS}/{name}.log"))
     with open(f"{LOGS}/{name}.log", "a", encoding="utf-8") as log:
-        log.writelines(f"error: no verdict, since its last line has {it}\n" for it in found)
+        log.writelines(f"error: this is no verdict: {''.join(it)}\n" for it in found)
     return not found
 
 
 def build(name, jobs, is_whole):
     """Builds one crate, and returns whether it is proved, and all that was asked holds."""
     to = f"{folder_of(name)}/out"
+    with contextlib.suppress(FileNotFoundError):
+        os.remove(f"{SUMS}/{name}")
     with tempfile.TemporaryDirectory(prefix="room-", dir=BUILD) as room, open(f"{LOGS}/{name}.log", "wb", buffering=0) as log:
         copy_crates([name], ROOT, room)
         made = f"{room}/crates/{name}"
@@ -137,7 +143,7 @@ def build(name, jobs, is_whole):
         if os.path.isdir(f"{made}/out"):
             shutil.rmtree(to, ignore_errors=True)
             os.rename(f"{made}/out", to)
-    return is_well and (not is_whole or is_verdict(name))
+    return is_well and is_verdict(name)
 
 
 def refused(name):
@@ -164,14 +170,19 @@ class Progress:
 
 def next_tasks(every, left, running, done, lanes):
     """Returns the crates that can begin now, each with its number of jobs. The idle processors are shared out evenly, at most MOST_JOBS
-    to each. The remainder goes to the first ones, since most other crates wait for them."""
-    ready = [it for it in left if set(every[it].below) <= done]
-    # Those below the most other crates come first.
-    ready.sort(key=lambda it: -sum(it in other.below for other in every.values()))
+    to each, and the remainder goes to the first ones. Those below the most other crates come first. Crates with none above them run one at
+    a time, with one job, until no other crate is left."""
+    above = Counter(lower for it in every.values() for lower in it.below)
+    now = [name for name, _, _ in running.values()]
+    ready = sorted((it for it in left if set(every[it].below) <= done), key=lambda it: -above[it])
+    tops = [it for it in (*now, *ready) if not above[it]]
+    is_last = all(not above[it] for it in (*left, *now))
+    if not is_last:
+        ready = [it for it in ready if it not in tops[1:]]
     idle, found = lanes - sum(jobs for _, _, jobs in running.values()), []
     for at, name in enumerate(ready):
         if idle:
-            jobs = min(MOST_JOBS, math.ceil(idle / (len(ready) - at)))
+            jobs = min(MOST_JOBS if is_last or name not in tops else 1, math.ceil(idle / (len(ready) - at)))
             found.append((name, jobs))
             idle -= jobs
     return found
@@ -181,7 +192,7 @@ def build_all(every, names, sums, done, words):
     """Builds these crates side by side, over those in `done`, which grows by them. What stands above one that fails is not tried."""
     left, running, progress, lanes = list(names), {}, Progress(len(names)), words.jobs or processors()
     with ThreadPoolExecutor(lanes) as pool:
-        while running or any(set(every[it].below) <= done for it in left):
+        while left or running:
             for name, jobs in next_tasks(every, left, running, done, lanes):
                 left.remove(name)
                 running[pool.submit(build, name, jobs, words.whole)] = (name, time.monotonic(), jobs)
@@ -191,6 +202,7 @@ def build_all(every, names, sums, done, words):
                 if it.result():
                     note_built(name, sums, words.whole)
                     done.add(name)
+                left = [above for above in left if it.result() or name not in every[above].below]
 
 
 def main():

@@ -14,8 +14,8 @@
 # copy of the crates without their wrong bodies, since it would prove a crate once more for its first wrong body.
 #
 # The output of each script is printed in one piece. At the end the gate says what all of it cost, and which scripts failed. The last line
-# counts what passed and failed: crates, programs and tests, wrong bodies, scripts. The output of `rt ci` is in build/logs/ci.log, what the
-# prover says to tools/build.py in build/logs/CRATE.log.
+# counts what passed and failed: crates, programs and tests, wrong bodies, scripts. The output of `rt ci` or tools/build.py is in
+# build/logs/ci.log, and what the prover says to tools/build.py in build/logs/CRATE.log.
 #
 # Usage: tools/check.sh [--judge]
 set -u
@@ -145,16 +145,17 @@ if [ -n "$judge" ]; then
     prove() { (cd "$work/tree" && rt ci); }
 else
     tar -cf - --exclude=out --exclude=./build --exclude=./.git . | tar -xf - -C "$work/tree"
-    prove() { (cd "$work/tree" && python3 tools/build.py --whole); }
+    mkdir "$work/tree/build"
+    ln -s "$PWD/build/logs" "$work/tree/build/logs"
+    prove() { (cd "$work/tree" && python3 tools/build.py ${RT_JOBS:+--jobs "$RT_JOBS"} --whole); }
 fi
 : >"$log"
 touch "$work/proving"
 beside >"$work/beside" 2>&1 </dev/null &
-(renice -n 10 "$BASHPID" >/dev/null && until_proved hart && run_on_program "${scripts[@]}") >"$work/on_program" 2>&1 </dev/null &
-prove 2>&1 | tee "$log" | grep --line-buffered -E '^rt: |^\[|NOT PROVED|passed, .* failed|\berror\b'
+(renice -n 10 "$BASHPID" >/dev/null; until_proved hart; run_on_program "${scripts[@]}") >"$work/on_program" 2>&1 </dev/null &
+prove 2>&1 | tee "$log" | grep --line-buffered -E '^rt: |^\[|^build: |not proved|NOT PROVED|FAILED|passed, .* failed|\berror\b'
 [ "${PIPESTATUS[0]}" -eq 0 ] || echo "the proofs: FAILED; what was not proved stands in build/logs" >>"$work/failed"
 rm "$work/proving"
-cp "$work"/tree/build/logs/*.log build/logs 2>/dev/null
 read -r ok _ < <(sed -nE 's/^([0-9]+) passed, ([0-9]+) failed.*/\1 \2/p' "$log" | tail -n 1)
 passed=$((passed + ${ok:-0}))
 
