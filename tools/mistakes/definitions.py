@@ -4,6 +4,7 @@ A variant changes a definition of `specs/` alone: a number is one off, a case is
 once in a copy of their crate, each with places, which are functions or lemmas, that rest on it and on no other variant that is planted:
 the one that mistakes.lock names, then others. One that these do not refuse is tried alone, with its whole crate and with crates above."""
 
+import functools
 import os
 import re
 from collections import Counter
@@ -164,30 +165,30 @@ class Trial:
                 del self.left[name]
                 yield name, found.get(name, []), why
 
-    def all(self, above=()):
-        """Yields the name of each variant with the places that refuse it, of a crate above if none here does, and why none does. They are
-        planted together with others as often as they can be, and then alone, with the whole crate."""
-        for few, most in STAGES:
-            while plan := self.planned(few, most):
-                for chosen in plan:
-                    yield from self.judged(chosen)
-        for name in list(self.left):
-            yield from self.judged({name: []})
-        for name, variant in self.left.items():
-            trials = (Trial(self.tree, self.base, it, {name: variant}) for it in above)
-            rounds = ((it, chosen) for it in trials for chosen in it.planned(MANY, 1))
-            found = (f"{it.crate.name}::{place}" for it, chosen in rounds for _, places, _ in it.judged(chosen) for place in places)
-            place = next(found, "")
-            yield name, [place] if place else [], "" if place else PROVED
+    def tried_above(self, name, crates):
+        """Yields the name of a variant with the place of one of these crates that refuses it, and why none does."""
+        trials = (Trial(self.tree, self.base, it, {name: self.left[name]}) for it in crates)
+        rounds = ((it, chosen) for it in trials for chosen in it.planned(MANY, 1))
+        found = (f"{it.crate.name}::{place}" for it, chosen in rounds for _, places, _ in it.judged(chosen) for place in places)
+        place = next(found, "")
+        yield name, [place] if place else [], "" if place else PROVED
+
+
+def decided(trials, above):
+    """Yields the name of each variant of these trials with the places that refuse it, of a crate above if none of its own does, and why
+    none does. They are planted together with others as often as they can be, and then alone, with the whole crate."""
+    for few, most in STAGES:
+        while tasks := [functools.partial(it.judged, chosen) for it in trials for chosen in it.planned(few, most)]:
+            yield from side_by_side(tasks)
+    yield from side_by_side([functools.partial(it.judged, {name: []}) for it in trials for name in it.left])
+    yield from side_by_side([functools.partial(it.tried_above, name, above[it.crate.name]) for it in trials for name in it.left])
 
 
 def tried(tree, variants):
     """Yields the name of each variant, the places that refuse it and a verdict, as they are decided. The longest crates come first."""
-    of_crates = {}
-    for it in variants:
-        of_crates.setdefault(it.crate, {})[it.name] = it
+    of_crates = {crate: {it.name: it for it in variants if it.crate == crate} for crate in dict.fromkeys(it.crate for it in variants)}
     above = {name: [it.name for it in tree.crates.values() if name in it.below] for name in of_crates}
     order = sorted(of_crates.items(), key=lambda it: -len(it[1]))
     with copied(tree.crates) as base:
-        for name, where, why in side_by_side(lambda it=it: Trial(tree, base, *it).all(above[it[0]]) for it in order):
+        for name, where, why in decided([Trial(tree, base, *it) for it in order], above):
             yield name, ", ".join(where[:3]), Verdict(("",) if where else (), why)

@@ -58,7 +58,7 @@ def verdicts_on_definitions(planted, tree):
     table = {key: (dict(planted[name])["old"], dict(planted[name])["new"]) for key, name in names.items()}
     variants, _ = definitions.variants(tree, table)
     with copied([CRATE]) as base:
-        for key, where, why in definitions.Trial(tree, base, CRATE, variants).all():
+        for key, where, why in definitions.decided([definitions.Trial(tree, base, CRATE, variants)], {CRATE: ()}):
             yield names[CRATE, key.rpartition("/")[2]], Verdict(tuple(where), why)
 
 
