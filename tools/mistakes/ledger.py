@@ -71,8 +71,7 @@ class Ledger:
         """Some of these names, chosen by the commit: one in twenty, or one in ten if the ledger was written with another kit."""
         others = {self.said[it].kit for it in names} - {self.kit}
         if others:
-            kits = ", ".join(sorted(others))
-            print(f"mistakes: mistakes.lock was written with {kits}, and this is {self.kit}: one in ten is tried again")
+            print(f"mistakes: mistakes.lock was written by {', '.join(sorted(others))}, and this is {self.kit}: one in ten is tried again")
         return sample(names, 10 if others else 20, commit())
 
 

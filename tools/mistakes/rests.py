@@ -65,8 +65,9 @@ class Rests:
 
     @functools.cache
     def words_of(self, text, crate, file):
-        """Returns the words in a text, and each operator of its scope of which some part stands in the text."""
-        operators = [it for it in self.scope(crate, file) if "◌" in it and any(part and part in text for part in it.split("◌"))]
+        """Returns the words in a text, and each operator of its scope of which some part stands in the text, or `>>=` in a `do` block."""
+        said = f"{text} >>=" if re.search(r"= do$", text, re.M) else text
+        operators = [it for it in self.scope(crate, file) if "◌" in it and any(part and part in said for part in it.split("◌"))]
         return {*WORD.findall(text), *operators}
 
     def starts_of(self, function):
