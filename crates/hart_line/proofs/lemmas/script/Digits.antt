@@ -1,7 +1,6 @@
 -- Hex digits whose values are found in a table.
 use Rattle.hart_line.proofs.Common.{◌≡◌, ℕ, ◌+◌, ◌*◌, ◌<◌, List, [], ◌∷◌, Option, Some, None, Result, Ok, IsTrue, is_some, unwrap_or, arith}
 use Rattle.hart_line.proofs.Common.{cases_eq, common_steps, get_or, get_or-set_at, get_or-set_other, inl, inr, length, mul_comm, slice_set}
-use Rattle.hart_line.proofs.Common.{nat_tests}
 use Rattle.hex.specs.declared.error.FromHexError.{FromHexError}
 use Rattle.hex.specs.Hex.{decode_pairs, digit_or_error, hex_digit_value, ◌>>=◌}
 use Rattle.hart_text.specs.Digits.{AreDigitsOf}
