@@ -4,7 +4,8 @@
 #   make quick                builds ./hart-unproved within two minutes, with nothing proved
 #   make check                runs every proof and test, and tries the wrong bodies of which mistakes.lock does not tell, and some others;
 #                             its last line counts what passed and failed
-#   make check-all            tries every wrong body and every wrong definition, and then runs make check with `rt ci` as the judge
+#   make check-all            tries every wrong body and every wrong definition, and then runs make check
+#   make check-once           is make check without `rt ci`: it proves each crate once, and gives no verdict
 #   make test                 proves every crate and runs every test and script, without the wrong bodies
 #   make mistakes             tries the wrong bodies on which a change may bear, and writes mistakes.lock
 #   make definitions          does the same with the wrong definitions; not part of make check
@@ -42,7 +43,7 @@ GUIDE := docs/GUIDE.md docs/COMMANDS.md docs/WIRE.md docs/FORMATS.md docs/explai
 	docs/GLOSSARY.md docs/explain.schema.json
 SOURCES := crates.txt $(shell find crates -name out -prune -o \( -name '*.rt' -o -name '*.antt' \) -print)
 
-.PHONY: all quick check check-all test mistakes definitions runs refused-growths streams examples vectors manual schema report held-view links library library-examples deb dist packages fuzz bench install install-report install-bench install-library clean
+.PHONY: all quick check check-once check-all test mistakes definitions runs refused-growths streams examples vectors manual schema report held-view links library library-examples deb dist packages fuzz bench install install-report install-bench install-library clean
 
 all: hart
 
@@ -59,11 +60,14 @@ quick:
 check:
 	bash tools/check.sh
 
+check-once:
+	bash tools/check.sh --once
+
 check-all:
 	python3 tools/mistakes.py --all
 	python3 tools/mistakes.py --definitions --all
 	python3 tools/mistakes.py --against-rattle
-	bash tools/check.sh --judge
+	bash tools/check.sh
 
 test: hart
 	python3 tools/build.py --whole

@@ -2,22 +2,22 @@
 # Runs the gate. It ends with status 0 if everything passed:
 #
 #   - Scripts that need neither the program nor the library come first.
-#   - tools/build.py proves every crate from nothing, with its tests, and runs the program and the tests. It works on a copy of the
-#     tree, without what earlier checks left.
-#   - Beside it, at a lower priority, the library for C is built in that copy. Then tools/mistakes.py tries the wrong bodies whose refusal
+#   - `rt ci` proves every crate from nothing, with its tests, and runs the program and the tests. It works on a copy of the crates
+#     without their wrong bodies, since it would prove a crate once more for its first wrong body.
+#   - Beside it, at a lower priority, the library for C is built in the tree. Then tools/mistakes.py tries the wrong bodies whose refusal
 #     may have changed, and a sample of the others. Scripts that need no program run beside that, and scripts on the library follow.
 #   - As soon as the program is built, scripts run on it side by side, beside the proofs of the tests. Scripts that need these tests or
 #     measure times come at the end.
 #
-# With --judge, `rt ci` proves every crate in place of tools/build.py, and refuses more, for example contracts that no call can meet. It
-# leaves nothing that `rt lib` can use, so the crates below the library for C are proved a second time, in the tree. `rt ci` works on a
-# copy of the crates without their wrong bodies, since it would prove a crate once more for its first wrong body.
+# `rt ci` leaves nothing that `rt lib` can use, so the crates below the library for C are proved twice. With --once, tools/build.py proves
+# every crate once, from nothing, in a copy of the tree, and the library is built there. This is no verdict: `rt ci` refuses more, for
+# example contracts that no call can meet.
 #
 # The output of each script is printed in one piece. At the end the gate says what all of it cost, and which scripts failed. The last line
 # counts what passed and failed: crates, programs and tests, wrong bodies, scripts. The output of `rt ci` or tools/build.py is in
 # build/logs/ci.log, and what the prover says to tools/build.py in build/logs/CRATE.log.
 #
-# Usage: tools/check.sh [--judge]
+# Usage: tools/check.sh [--once]
 set -u
 cd "$(dirname "$0")/.." || exit 1
 work=$(mktemp -d)
@@ -26,7 +26,8 @@ trap 'rm -rf "$work"' EXIT
 chmod a+rx "$work"
 mkdir -p build/logs "$work/tree/crates" "$work/said"
 touch "$work/passed" "$work/failed"
-judge=${1:-}
+judge=yes
+[ "${1:-}" != --once ] || judge=
 log=build/logs/ci.log
 # The tree in which `rt lib` finds the crates proved that stand below the library for C.
 proved=$work/tree
